@@ -1,0 +1,77 @@
+-- What is done to one small value of the engine.
+use Prim.Native.Nat.{ℕ, _+_, _%_, _^_}
+use mathlib.Core.Bool.{Bool, true, false}
+use lib.Dec.{eqb}
+use Rattle.parts.specs.Pick.{pick, onHolder, onSlot}
+use Rattle.parts.specs.declared.Entry.{Entry}
+use Rattle.parts.specs.declared.Holder.the-variants.{Free, Sheet}
+use Rattle.parts.specs.declared.Instr.{Instr}
+use Rattle.parts.specs.declared.LockWord.{LockWord}
+use Rattle.parts.specs.declared.Reading.{Reading}
+use Rattle.parts.specs.declared.Registers.{Registers}
+use Rattle.parts.specs.declared.Slot.the-variants.{Empty, Filled}
+use Rattle.parts.specs.declared.Word.{Word}
+
+-- the values at the start, and past an array's end
+abbrev pub instr0 : Instr
+instr0 = record { op = 0; a = 0; b = 0; c = 0 }
+
+abbrev pub registers0 : Registers
+registers0 = record { r0 = 0; r1 = 0; r2 = 0; r3 = 0 }
+
+abbrev pub word0 : Word
+word0 = record { value = 0; count = 0; guard = 0 }
+
+abbrev pub entry0 : Entry
+entry0 = record { slot = Empty }
+
+abbrev pub lock0 : LockWord
+lock0 = record { turn = 0; holder = Free }
+
+-- one more, at 32 bits
+abbrev pub next32 : ℕ → ℕ
+next32 n = (n + 1) % 2 ^ 32
+
+-- a register, by its number
+unfoldable pub registerOf : Registers → ℕ → ℕ
+registerOf r i = pick (eqb i 0) (r .r0) (pick (eqb i 1) (r .r1) (pick (eqb i 2) (r .r2) (r .r3)))
+
+-- register i becomes x
+unfoldable pub withRegister : Registers → ℕ → ℕ → Registers
+withRegister r i x =
+    pick (eqb i 0) (record { r0 = x; r1 = r .r1; r2 = r .r2; r3 = r .r3 })
+    (pick (eqb i 1) (record { r0 = r .r0; r1 = x; r2 = r .r2; r3 = r .r3 })
+    (pick (eqb i 2) (record { r0 = r .r0; r1 = r .r1; r2 = x; r3 = r .r3 })
+    (record { r0 = r .r0; r1 = r .r1; r2 = r .r2; r3 = x })))
+
+-- "read the word"
+abbrev pub readingOf : Word → Reading
+readingOf w = record { value = w .value; count = w .count }
+
+-- "Swap: if the word's value and count equal the entry's, the word takes the new value and its count rises by one;
+-- otherwise nothing."
+unfoldable pub swapOf : Word → Reading → ℕ → Word
+swapOf w e new =
+    pick (eqb (w .value) (e .value))
+    (pick (eqb (w .count) (e .count)) (record { value = new; count = next32 (w .count); guard = w .guard }) w) w
+
+-- "Commit: if the log entry at the place is empty it takes the value and count read"
+unfoldable pub committedOf : Entry → Reading → Entry
+committedOf e read = onSlot (e .slot) (record { slot = Filled read }) (λ first. e)
+
+-- "either way the worker goes on with what the entry holds"
+unfoldable pub holdsOf : Entry → Reading → Reading
+holdsOf e read = onSlot (e .slot) read (λ first. first)
+
+-- "Grab. If the lock word is still what was remembered, it becomes turn + 1, held by the worker's own sheet.
+-- Otherwise nothing changes." What was remembered is free, at the turn seen.
+unfoldable pub grabOf : LockWord → ℕ → ℕ → LockWord
+grabOf l seen sheet =
+    onHolder (l .holder)
+    (pick (eqb (l .turn) seen) (record { turn = next32 (l .turn); holder = Sheet sheet }) l) (λ s. l)
+
+-- "Release. If the lock word is held by that sheet at the turn under which it won, it becomes free with the same turn."
+unfoldable pub releaseOf : LockWord → ℕ → ℕ → LockWord
+releaseOf l won sheet =
+    onHolder (l .holder) l
+    (λ s. pick (eqb s sheet) (pick (eqb (l .turn) won) (record { turn = l .turn; holder = Free }) l) l)

@@ -1,0 +1,76 @@
+-- Answers and refusals with document 01's numbers and places, and the order in which refusals are given.
+use Prim.Native.Nat.{ℕ}
+use mathlib.Core.Bool.{Bool}
+use mathlib.Core.List.{List, [], _∷_}
+use Rattle.parts.specs.Pick.{pick}
+use Rattle.parts.specs.declared.Answer.{Answer}
+use Rattle.parts.specs.declared.Answer.the-variants.{RanYes, RanNo, NotTaken}
+use Rattle.parts.specs.declared.Refusal.{Refusal}
+use Rattle.parts.specs.declared.Refusal.the-variants.{NoWorker, NoLock, WorkerUnderWay, NotCollected, Length, Kind, Instruction, Guard, LastTurn, NoSheet, WorkerIdle, Range, Buffer, SheetFree, Held, NoWord}
+use Rattle.parts.specs.declared.Told.{Told}
+use Rattle.parts.specs.declared.Told.the-variants.{Accepted, Refused}
+
+-- "Collected answers: 1 ran, yes. 2 ran, no. 3 not taken"
+unfoldable pub answerNumber : Answer → ℕ
+answerNumber RanYes = 1
+answerNumber RanNo = 2
+answerNumber NotTaken = 3
+
+-- the table's "No."
+unfoldable pub refusalNumber : Refusal → ℕ
+refusalNumber NoWorker = 1
+refusalNumber NoLock = 2
+refusalNumber WorkerUnderWay = 3
+refusalNumber NotCollected = 4
+refusalNumber Length = 5
+refusalNumber Kind = 6
+refusalNumber (Instruction p) = 7
+refusalNumber (Guard p) = 8
+refusalNumber LastTurn = 9
+refusalNumber NoSheet = 10
+refusalNumber WorkerIdle = 11
+refusalNumber (Range p) = 12
+refusalNumber Buffer = 13
+refusalNumber SheetFree = 14
+refusalNumber (Held l) = 15
+refusalNumber NoWord = 16
+
+-- the table's "place"
+unfoldable pub refusalPlace : Refusal → ℕ
+refusalPlace NoWorker = 0
+refusalPlace NoLock = 0
+refusalPlace WorkerUnderWay = 0
+refusalPlace NotCollected = 0
+refusalPlace Length = 0
+refusalPlace Kind = 0
+refusalPlace (Instruction p) = p
+refusalPlace (Guard p) = p
+refusalPlace LastTurn = 0
+refusalPlace NoSheet = 0
+refusalPlace WorkerIdle = 0
+refusalPlace (Range p) = p
+refusalPlace Buffer = 0
+refusalPlace SheetFree = 0
+refusalPlace (Held l) = l
+refusalPlace NoWord = 0
+
+-- of what a call told: where it was accepted; where it was refused
+abbrev pub onTold : {A : Type 0} → Told → A → (Refusal → A) → A
+onTold Accepted a f = a
+onTold (Refused r) a f = f r
+
+-- one row of a call's order: refused so exactly when the test holds
+abbrev pub refuseIf : Bool → Refusal → Told
+refuseIf test r = pick test (Refused r) Accepted
+
+-- the first where it refuses, else the second
+abbrev pub _then_ : Told → Told → Told
+Accepted then u = u
+(Refused r) then u = Refused r
+
+infixr 20 _then_
+-- a call's order: the first row that refuses
+abbrev pub firstOf : List Told → Told
+firstOf [] = Accepted
+firstOf (t ∷ []) = t
+firstOf (t ∷ u ∷ ts) = t then firstOf (u ∷ ts)

@@ -1,0 +1,20 @@
+-- Each return is what the definition picks on the way that led there.
+use borrow.Author.Needs.{needs}
+use Rattle.steps.specs.Worker.{collectedOf}
+use Rattle.parts.proofs.Laws.{laws}
+use Rattle.steps.proofs.Laws.{states}
+use Rattle.steps.proofs.Worker.collect.Statement.{statement}
+use Rattle.steps.proofs.Worker.collect.Tie as tie
+
+pub collect-spec : {M : Type 1} → statement M
+unfolding collectedOf
+collect-spec =
+    tie.close
+    (tie.spec
+    (λ c. search needs)
+    (λ c. search needs)
+    (λ c. search needs)
+    (λ c κs. search needs)
+    (λ c. search (laws, states) depth 8)
+    (λ c. search (laws, states) depth 8)
+    (λ c. search (laws, states) depth 8))

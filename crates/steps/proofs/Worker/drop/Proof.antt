@@ -1,0 +1,21 @@
+-- Each return is what the definition picks on the way that led there.
+use borrow.Author.Needs.{needs}
+use Rattle.steps.specs.Worker.{droppedOf}
+use Rattle.parts.proofs.Laws.{laws}
+use Rattle.steps.proofs.Laws.{states}
+use Rattle.steps.proofs.Worker.drop.Statement.{statement}
+use Rattle.steps.proofs.Worker.drop.Tie as tie
+
+pub drop-spec : {M : Type 1} → statement M
+unfolding droppedOf
+drop-spec =
+    tie.close
+    (tie.spec
+    (λ c. search needs)
+    (λ c. search needs)
+    (λ c κs. search needs)
+    (λ c. search needs)
+    (λ c κs. search needs)
+    (λ c. search (laws, states) depth 8)
+    (λ c. search (laws, states) depth 8)
+    (λ c. search (laws, states) depth 8))

@@ -1,0 +1,19 @@
+-- Each return is what the definition picks on the way that led there.
+use borrow.Author.Needs.{needs}
+use Rattle.steps.specs.Worker.{stepTold}
+use Rattle.parts.proofs.Laws.{laws}
+use Rattle.steps.proofs.Laws.{states}
+use Rattle.steps.proofs.Worker.step_told.Statement.{statement}
+use Rattle.steps.proofs.Worker.step_told.Tie as tie
+
+pub step-told-spec : {M : Type 1} → statement M
+unfolding stepTold
+step-told-spec =
+    tie.close
+    (tie.spec
+    (λ c. search needs)
+    (λ c. search needs)
+    (λ c. search needs)
+    (λ c. search (laws, states) depth 8)
+    (λ c. search (laws, states) depth 8)
+    (λ c. search (laws, states) depth 8))

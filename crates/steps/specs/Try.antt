@@ -1,0 +1,159 @@
+-- One try, step by step: what each line of document 01's list does to the pieces that a step can touch.
+use Prim.Native.Nat.{ℕ, _+_, _%_, _^_}
+use mathlib.Core.Bool.{Bool, true}
+use lib.Dec.{eqb}
+use Rattle.parts.specs.Instr.{asksOf, followsOf, onAsks, onFollows}
+use Rattle.parts.specs.Numbers.{lastTurn}
+use Rattle.parts.specs.Parts as parts
+use Rattle.parts.specs.Parts.{next32, registers0, readingOf, committedOf, holdsOf}
+use Rattle.parts.specs.Pick.{pick, onHolder}
+use Rattle.parts.specs.declared.Answer.{Answer}
+use Rattle.parts.specs.declared.Answer.the-variants.{RanYes, RanNo, NotTaken}
+use Rattle.parts.specs.declared.Entry.{Entry}
+use Rattle.parts.specs.declared.LockWord.{LockWord}
+use Rattle.parts.specs.declared.Reading.{Reading}
+use Rattle.parts.specs.declared.Registers.{Registers}
+use Rattle.parts.specs.declared.Word.{Word}
+use Rattle.steps.specs.Worker.{movedOf}
+use Rattle.steps.specs.declared.Point.{Point}
+use Rattle.steps.specs.declared.Point.the-variants.{Look, Grab, LookAgain, ReadMark, Read, Commit, Swap, Mark, Release}
+use Rattle.steps.specs.declared.Run.{Run}
+use Rattle.steps.specs.declared.State.{State}
+use Rattle.steps.specs.declared.State.the-variants.{UnderWay, Finished}
+use Rattle.steps.specs.declared.View.{View}
+
+-- the pieces with one of them changed
+abbrev pub withLock : View → LockWord → View
+withLock v l =
+    record { worker = v .worker; lock = l; word = v .word; entry = v .entry; instr = v .instr; done = v .done }
+
+abbrev pub withWord : View → Word → View
+withWord v w =
+    record { worker = v .worker; lock = v .lock; word = w; entry = v .entry; instr = v .instr; done = v .done }
+
+abbrev pub withEntry : View → Entry → View
+withEntry v e =
+    record { worker = v .worker; lock = v .lock; word = v .word; entry = e; instr = v .instr; done = v .done }
+
+abbrev pub withDone : View → View
+withDone v =
+    record { worker = v .worker; lock = v .lock; word = v .word; entry = v .entry; instr = v .instr; done = true }
+
+-- the step is made, and the worker is in this state; at this point
+abbrev pub toOf : View → State → View
+toOf v s =
+    record {
+      worker = movedOf (v .worker) s;
+      lock = v .lock;
+      word = v .word;
+      entry = v .entry;
+      instr = v .instr;
+      done = v .done;
+    }
+
+abbrev pub atOf : View → Point → View
+atOf v p = toOf v (UnderWay p)
+
+-- "from instruction 0 with registers 0 and log place 0"
+abbrev pub startOf : ℕ → ℕ → Run
+startOf sheet won = record { sheet = sheet; won = won; next = 0; place = 0; registers = registers0 }
+
+-- on to the next instruction, some passed over
+abbrev pub ontoOf : Run → ℕ → Registers → Run
+ontoOf r over registers =
+    record {
+      sheet = r .sheet;
+      won = r .won;
+      next = (r .next + 1 + over) % 2 ^ 8;
+      place = r .place;
+      registers = registers;
+    }
+
+-- "the place rises by one"
+abbrev pub loggedOf : Run → Run
+loggedOf r =
+    record {
+      sheet = r .sheet;
+      won = r .won;
+      next = r .next;
+      place = (r .place + 1) % 2 ^ 8;
+      registers = r .registers;
+    }
+
+-- "1. Look. Remember the lock word. Held: help that sheet, go to 5. Free at turn 67,108,864: finish, not taken. Free otherwise:
+-- go to 2."
+unfoldable pub lookOf : View → View
+lookOf v =
+    onHolder (v .lock .holder)
+    (pick (eqb (v .lock .turn) lastTurn) (toOf v (Finished NotTaken)) (atOf v (Grab (v .lock .turn))))
+    (λ s. atOf v (Read (startOf s (v .lock .turn))))
+
+-- "2. Grab. If the lock word is still what was remembered, it becomes turn + 1, held by the worker's own sheet. Otherwise
+-- nothing changes."
+unfoldable pub grabOf : View → ℕ → View
+grabOf v seen = atOf (withLock v (parts.grabOf (v .lock) seen (v .worker .own))) (LookAgain (next32 seen))
+
+-- "3. Look again. Remember the lock word. If another sheet holds it, that sheet counts as helped from now."
+unfoldable pub lookAgainOf : View → ℕ → View
+lookAgainOf v won = atOf v (ReadMark (v .lock) won)
+
+-- "4. Read own done mark. Marked, or step 3 saw the own sheet: run the own sheet, and a sheet seen at 3 no longer counts as
+-- helped. Otherwise, if step 3 saw another sheet: help it. Otherwise finish, not taken."
+unfoldable pub readMarkOf : View → LockWord → ℕ → View
+readMarkOf v seen won =
+    pick (v .done) (atOf v (Read (startOf (v .worker .own) won)))
+    (onHolder (seen .holder) (toOf v (Finished NotTaken))
+    (λ s.
+    pick (eqb s (v .worker .own)) (atOf v (Read (startOf (v .worker .own) won)))
+    (atOf v (Read (startOf s (seen .turn))))))
+
+-- "5. Run. Set, add, sub, skip and halt: one step each. Load: read the word. Store: read. Cam: read."
+unfoldable pub readOf : View → Run → View
+readOf v r =
+    onAsks (asksOf (v .instr) (r .registers)) (λ said. atOf v (Mark r said))
+    (λ registers over. atOf v (Read (ontoOf r over registers)))
+    (λ w. atOf v (Commit r (readingOf (v .word))))
+
+-- "Load: commit. Store: commit; swap. Cam: commit; swap, the last only if the committed value equals register a." What follows
+-- of the entry's value: the next instruction, or the swap
+unfoldable pub followOf : View → Run → Reading → View
+followOf v r held =
+    onFollows (followsOf (v .instr) (r .registers) (held .value)) (λ registers. atOf v (Read (ontoOf r 0 registers)))
+    (λ new. atOf v (Swap r held new))
+
+-- "Commit: if the log entry at the place is empty it takes the value and count read; either way the worker goes on with what
+-- the entry holds, and the place rises by one."
+unfoldable pub commitOf : View → Run → Reading → View
+commitOf v r read = followOf (withEntry v (committedOf (v .entry) read)) (loggedOf r) (holdsOf (v .entry) read)
+
+-- "Swap: if the word's value and count equal the entry's, the word takes the new value and its count rises by one"
+unfoldable pub swapOf : View → Run → Reading → ℕ → View
+swapOf v r entry new =
+    atOf (withWord v (parts.swapOf (v .word) entry new)) (Read (ontoOf r 0 (r .registers)))
+
+-- "6. Mark the sheet done."
+unfoldable pub markOf : View → Run → Bool → View
+markOf v r said = atOf (withDone v) (Release r said)
+
+-- "own sheet, ran with the halt's answer; helped sheet, not taken"
+unfoldable pub answerOf : Run → ℕ → Bool → Answer
+answerOf r own said = pick (eqb (r .sheet) own) (pick said RanYes RanNo) NotTaken
+
+-- "7. Release. If the lock word is held by that sheet at the turn under which it won, it becomes free with the same turn. Finish
+-- in this step"
+unfoldable pub releaseOf : View → Run → Bool → View
+releaseOf v r said =
+    toOf (withLock v (parts.releaseOf (v .lock) (r .won) (r .sheet)))
+    (Finished (answerOf r (v .worker .own) said))
+
+-- "Each line but 5 is one step."
+unfoldable pub effectOf : View → Point → View
+effectOf v Look = lookOf v
+effectOf v (Grab seen) = grabOf v seen
+effectOf v (LookAgain won) = lookAgainOf v won
+effectOf v (ReadMark seen won) = readMarkOf v seen won
+effectOf v (Read r) = readOf v r
+effectOf v (Commit r read) = commitOf v r read
+effectOf v (Swap r entry new) = swapOf v r entry new
+effectOf v (Mark r said) = markOf v r said
+effectOf v (Release r said) = releaseOf v r said

@@ -1,0 +1,56 @@
+-- "A worker is idle, under way at a named point of its try, or finished with one of three answers."
+use Prim.Native.Nat.{ℕ}
+use Rattle.parts.specs.Parts.{next32}
+use Rattle.parts.specs.declared.Answer.{Answer}
+use Rattle.parts.specs.declared.Refusal.the-variants.{WorkerUnderWay, NotCollected, WorkerIdle}
+use Rattle.parts.specs.declared.Told.{Told}
+use Rattle.parts.specs.declared.Told.the-variants.{Accepted, Refused}
+use Rattle.steps.specs.declared.Point.{Point}
+use Rattle.steps.specs.declared.Point.the-variants.{Look}
+use Rattle.steps.specs.declared.State.{State}
+use Rattle.steps.specs.declared.State.the-variants.{Idle, UnderWay, Finished}
+use Rattle.steps.specs.declared.Worker.{Worker}
+
+-- by the state
+abbrev pub onState : {A : Type 0} → State → A → (Point → A) → (Answer → A) → A
+onState Idle a f g = a
+onState (UnderWay p) a f g = f p
+onState (Finished x) a f g = g x
+
+-- an idle worker; also what the array of workers has past its end
+abbrev pub worker0 : Worker
+worker0 = record { state = Idle; lock = 0; own = 0; steps = 0 }
+
+-- "Begin (worker, lock, job record) takes a sheet": the worker is to look at its lock
+abbrev pub lookingOf : ℕ → ℕ → Worker
+lookingOf lock sheet = record { state = UnderWay Look; lock = lock; own = sheet; steps = 0 }
+
+-- "a worker can't begin again until its last answer is collected or it is dropped"
+unfoldable pub beganOf : Worker → ℕ → ℕ → Worker
+beganOf k lock sheet = onState (k .state) (lookingOf lock sheet) (λ p. k) (λ x. k)
+
+-- "Collect (worker) ... makes the worker idle."
+unfoldable pub collectedOf : Worker → Worker
+collectedOf k = onState (k .state) k (λ p. k) (λ x. worker0)
+
+-- "Drop (worker) makes a worker that isn't idle idle at any point"
+unfoldable pub droppedOf : Worker → Worker
+droppedOf k = onState (k .state) k (λ p. worker0) (λ x. worker0)
+
+-- The refusals that go by the worker's state. "3: begin or collect: worker under way", "4: begin or step: answer not collected",
+-- "11: step, collect or drop: worker idle"
+unfoldable pub beginTold : Worker → Told
+beginTold k = onState (k .state) Accepted (λ p. Refused WorkerUnderWay) (λ x. Refused NotCollected)
+
+unfoldable pub stepTold : Worker → Told
+stepTold k = onState (k .state) (Refused WorkerIdle) (λ p. Accepted) (λ x. Refused NotCollected)
+
+unfoldable pub collectTold : Worker → Told
+collectTold k = onState (k .state) (Refused WorkerIdle) (λ p. Refused WorkerUnderWay) (λ x. Accepted)
+
+unfoldable pub dropTold : Worker → Told
+dropTold k = onState (k .state) (Refused WorkerIdle) (λ p. Accepted) (λ x. Accepted)
+
+-- one accepted step more, and the state that it leads to
+abbrev pub movedOf : Worker → State → Worker
+movedOf k s = record { state = s; lock = k .lock; own = k .own; steps = next32 (k .steps) }

@@ -1,0 +1,178 @@
+// The worker, and one step of its try on the pieces that a step can touch: the worker, its lock word, one word, one log entry,
+// one instruction, one done mark. Each contract gives the result whole, by a definition of specs/.
+ghost use mathlib.Core.Path.{_≡_};
+ghost use Rattle.steps.specs.Worker.{worker0, beganOf, collectedOf, droppedOf, beginTold, stepTold, collectTold, dropTold, movedOf};
+
+mod trying;
+
+use parts::Answer;
+use parts::Entry;
+use parts::Instr;
+use parts::LockWord;
+use parts::Reading;
+use parts::Refusal;
+use parts::Registers;
+use parts::Told;
+use parts::Word;
+
+// A run of a sheet: the turn under which it won its lock, the next instruction, the log place, the registers.
+pub struct Run {
+    pub sheet: u8,
+    pub won: u32,
+    pub next: u8,
+    pub place: u8,
+    pub registers: Registers,
+}
+
+// The points of a try, in document 01's order; each holds what the worker remembers there.
+pub enum Point {
+    Look,
+    // The turn at which Look found the lock free.
+    Grab(u32),
+    // The turn under which the own sheet won, if it did.
+    LookAgain(u32),
+    // What Look again saw, and that turn.
+    ReadMark(LockWord, u32),
+    // The first step of the next instruction.
+    Read(Run),
+    Commit(Run, Reading),
+    // What the entry holds, and the new value.
+    Swap(Run, Reading, u32),
+    // The halt's answer.
+    Mark(Run, bool),
+    Release(Run, bool),
+}
+
+pub enum State {
+    Idle,
+    UnderWay(Point),
+    Finished(Answer),
+}
+
+// `lock`, `own` (the own sheet) and `steps` (the accepted steps since begin) belong to the try; they are 0 where there is none.
+pub struct Worker {
+    pub state: State,
+    pub lock: u8,
+    pub own: u8,
+    pub steps: u32,
+}
+
+pub struct View {
+    pub worker: Worker,
+    pub lock: LockWord,
+    pub word: Word,
+    pub entry: Entry,
+    pub instr: Instr,
+    pub done: bool,
+}
+
+impl Worker {
+    pub fn idle() -> Worker
+        ensures { λ r. ⌜ r ≡ worker0 ⌝ }
+    {
+        Worker {
+            state: State::Idle,
+            lock: 0,
+            own: 0,
+            steps: 0,
+        }
+    }
+
+    // An idle worker is at the start of a try. Any other stays: it can't begin again until its answer is collected or it is dropped.
+    pub fn begin(self, lock: u8, sheet: u8) -> Worker
+        ensures { λ r. ⌜ r ≡ beganOf self lock sheet ⌝ }
+    {
+        let s = self.state;
+        match s {
+            State::Idle => Worker {
+                state: State::UnderWay(Point::Look),
+                lock: lock,
+                own: sheet,
+                steps: 0,
+            },
+            State::UnderWay(_) => self,
+            State::Finished(_) => self,
+        }
+    }
+
+    // A finished worker is idle again. Any other stays.
+    pub fn collect(self) -> Worker
+        ensures { λ r. ⌜ r ≡ collectedOf self ⌝ }
+    {
+        let s = self.state;
+        match s {
+            State::Idle => self,
+            State::UnderWay(_) => self,
+            State::Finished(_) => Worker::idle(),
+        }
+    }
+
+    // A worker that isn't idle is idle, at whatever point it was.
+    pub fn drop(self) -> Worker
+        ensures { λ r. ⌜ r ≡ droppedOf self ⌝ }
+    {
+        let s = self.state;
+        match s {
+            State::Idle => self,
+            State::UnderWay(_) => Worker::idle(),
+            State::Finished(_) => Worker::idle(),
+        }
+    }
+
+    pub fn begin_told(self) -> Told
+        ensures { λ r. ⌜ r ≡ beginTold self ⌝ }
+    {
+        let s = self.state;
+        match s {
+            State::Idle => Told::Accepted,
+            State::UnderWay(_) => Told::Refused(Refusal::WorkerUnderWay),
+            State::Finished(_) => Told::Refused(Refusal::NotCollected),
+        }
+    }
+
+    pub fn step_told(self) -> Told
+        ensures { λ r. ⌜ r ≡ stepTold self ⌝ }
+    {
+        let s = self.state;
+        match s {
+            State::Idle => Told::Refused(Refusal::WorkerIdle),
+            State::UnderWay(_) => Told::Accepted,
+            State::Finished(_) => Told::Refused(Refusal::NotCollected),
+        }
+    }
+
+    pub fn collect_told(self) -> Told
+        ensures { λ r. ⌜ r ≡ collectTold self ⌝ }
+    {
+        let s = self.state;
+        match s {
+            State::Idle => Told::Refused(Refusal::WorkerIdle),
+            State::UnderWay(_) => Told::Refused(Refusal::WorkerUnderWay),
+            State::Finished(_) => Told::Accepted,
+        }
+    }
+
+    pub fn drop_told(self) -> Told
+        ensures { λ r. ⌜ r ≡ dropTold self ⌝ }
+    {
+        let s = self.state;
+        match s {
+            State::Idle => Told::Refused(Refusal::WorkerIdle),
+            State::UnderWay(_) => Told::Accepted,
+            State::Finished(_) => Told::Accepted,
+        }
+    }
+
+    // The worker after a step that leaves it in this state: one step more.
+    pub fn moved(self, s: State) -> Worker
+        ensures { λ r. ⌜ r ≡ movedOf self s ⌝ }
+    {
+        let n = std::num::wrapping_add_u32(self.steps, 1);
+        Worker {
+            state: s,
+            lock: self.lock,
+            own: self.own,
+            steps: n,
+        }
+    }
+}

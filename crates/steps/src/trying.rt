@@ -1,0 +1,230 @@
+// One try, step by step: each line of document 01's list on the pieces that it touches.
+ghost use mathlib.Core.Path.{_≡_};
+ghost use Rattle.steps.specs.Try.{startOf, ontoOf, loggedOf, toOf, atOf, lookOf, grabOf, lookAgainOf, readMarkOf, readOf, followOf, commitOf, swapOf, markOf, releaseOf, answerOf, effectOf};
+use crate::Point;
+use crate::Run;
+use crate::State;
+use crate::View;
+use crate::Worker;
+use parts::Answer;
+use parts::Asks;
+use parts::Follows;
+use parts::Holder;
+use parts::LAST_TURN;
+use parts::LockWord;
+use parts::Reading;
+use parts::Registers;
+
+impl Run {
+    // From instruction 0 with registers 0 and log place 0.
+    pub fn start(sheet: u8, won: u32) -> Run
+        ensures { λ r. ⌜ r ≡ startOf sheet won ⌝ }
+    {
+        Run {
+            sheet: sheet,
+            won: won,
+            next: 0,
+            place: 0,
+            registers: Registers {
+                r0: 0,
+                r1: 0,
+                r2: 0,
+                r3: 0,
+            },
+        }
+    }
+
+    // On to the next instruction, `over` passed over.
+    pub fn onto(mut self, over: u8, registers: Registers) -> Run
+        ensures { λ r. ⌜ r ≡ ontoOf self over registers ⌝ }
+    {
+        let at = self.next;
+        self.next = (((at as u32) + 1 + (over as u32)) % 256) as u8;
+        self.registers = registers;
+        self
+    }
+
+    // The log place rises by one.
+    pub fn logged(mut self) -> Run
+        ensures { λ r. ⌜ r ≡ loggedOf self ⌝ }
+    {
+        let next = std::num::wrapping_add_u8(self.place, 1);
+        self.place = next;
+        self
+    }
+}
+
+// What the end of a run tells its worker.
+pub fn answer(run: Run, own: u8, said: bool) -> Answer
+    ensures { λ r. ⌜ r ≡ answerOf run own said ⌝ }
+{
+    if run.sheet == own {
+        if said {
+            return Answer::RanYes;
+        }
+        return Answer::RanNo;
+    }
+    Answer::NotTaken
+}
+
+impl View {
+    // The worker has made its step and is in this state.
+    pub fn to(mut self, s: State) -> View
+        ensures { λ r. ⌜ r ≡ toOf self s ⌝ }
+    {
+        let k = self.worker;
+        let next = k.moved(s);
+        self.worker = next;
+        self
+    }
+
+    // The worker has made its step and goes on at this point.
+    pub fn at(self, p: Point) -> View
+        ensures { λ r. ⌜ r ≡ atOf self p ⌝ }
+    {
+        self.to(State::UnderWay(p))
+    }
+
+    // 1. Held: help that sheet. Free at the last turn: finish, not taken. Free otherwise: grab.
+    pub fn look(self) -> View
+        ensures { λ r. ⌜ r ≡ lookOf self ⌝ }
+    {
+        let l = self.lock;
+        let h = l.holder;
+        match h {
+            Holder::Sheet(s) => self.at(Point::Read(Run::start(s, l.turn))),
+            Holder::Free => {
+                if l.turn == LAST_TURN {
+                    return self.to(State::Finished(Answer::NotTaken));
+                }
+                self.at(Point::Grab(l.turn))
+            }
+        }
+    }
+
+    // 2. The lock word becomes the own sheet's if it is still what Look saw.
+    pub fn grab(mut self, seen: u32) -> View
+        ensures { λ r. ⌜ r ≡ grabOf self seen ⌝ }
+    {
+        let l = self.lock;
+        let k = self.worker;
+        let next = l.grab(seen, k.own);
+        self.lock = next;
+        let won = std::num::wrapping_add_u32(seen, 1);
+        self.at(Point::LookAgain(won))
+    }
+
+    // 3. Remember the lock word.
+    pub fn look_again(self, won: u32) -> View
+        ensures { λ r. ⌜ r ≡ lookAgainOf self won ⌝ }
+    {
+        let l = self.lock;
+        self.at(Point::ReadMark(l, won))
+    }
+
+    // 4. Marked, or the own sheet was seen: run it. Another sheet was seen: help it. Else finish, not taken.
+    pub fn read_mark(self, seen: LockWord, won: u32) -> View
+        ensures { λ r. ⌜ r ≡ readMarkOf self seen won ⌝ }
+    {
+        let k = self.worker;
+        let own = k.own;
+        if self.done {
+            return self.at(Point::Read(Run::start(own, won)));
+        }
+        let h = seen.holder;
+        match h {
+            Holder::Free => self.to(State::Finished(Answer::NotTaken)),
+            Holder::Sheet(s) => {
+                if s == own {
+                    return self.at(Point::Read(Run::start(own, won)));
+                }
+                self.at(Point::Read(Run::start(s, seen.turn)))
+            }
+        }
+    }
+
+    // 5, the first step of an instruction: set, add, sub, skip and halt are done with it; load, store and cam read the word.
+    pub fn read(self, run: Run) -> View
+        ensures { λ r. ⌜ r ≡ readOf self run ⌝ }
+    {
+        let i = self.instr;
+        let asks = i.asks(run.registers);
+        match asks {
+            Asks::Halt(said) => self.at(Point::Mark(run, said)),
+            Asks::Go(registers, over) => self.at(Point::Read(run.onto(over, registers))),
+            Asks::Touch(_) => {
+                let w = self.word;
+                self.at(Point::Commit(run, w.reading()))
+            }
+        }
+    }
+
+    // What follows once the value of an instruction's word is committed: the next instruction, or the swap.
+    pub fn follow(self, run: Run, held: Reading) -> View
+        ensures { λ r. ⌜ r ≡ followOf self run held ⌝ }
+    {
+        let i = self.instr;
+        let follows = i.follows(run.registers, held.value);
+        match follows {
+            Follows::Done(registers) => self.at(Point::Read(run.onto(0, registers))),
+            Follows::Swap(new) => self.at(Point::Swap(run, held, new)),
+        }
+    }
+
+    // 5, commit: the worker goes on with what the entry holds, and the place rises by one.
+    pub fn commit(mut self, run: Run, read: Reading) -> View
+        ensures { λ r. ⌜ r ≡ commitOf self run read ⌝ }
+    {
+        let e = self.entry;
+        let held = e.holds(read);
+        let next = e.commit(read);
+        self.entry = next;
+        self.follow(run.logged(), held)
+    }
+
+    // 5, swap.
+    pub fn swap(mut self, run: Run, entry: Reading, new: u32) -> View
+        ensures { λ r. ⌜ r ≡ swapOf self run entry new ⌝ }
+    {
+        let w = self.word;
+        let next = w.swap(entry, new);
+        self.word = next;
+        self.at(Point::Read(run.onto(0, run.registers)))
+    }
+
+    // 6. The sheet is done.
+    pub fn mark(mut self, run: Run, said: bool) -> View
+        ensures { λ r. ⌜ r ≡ markOf self run said ⌝ }
+    {
+        self.done = true;
+        self.at(Point::Release(run, said))
+    }
+
+    // 7. The lock word is free again if that sheet still holds it as it won it. Finish: the own sheet ran; a helped one, not taken.
+    pub fn release(mut self, run: Run, said: bool) -> View
+        ensures { λ r. ⌜ r ≡ releaseOf self run said ⌝ }
+    {
+        let l = self.lock;
+        let next = l.release(run.won, run.sheet);
+        self.lock = next;
+        let k = self.worker;
+        self.to(State::Finished(answer(run, k.own, said)))
+    }
+
+    // One step of a worker that is at this point.
+    pub fn step(self, p: Point) -> View
+        ensures { λ r. ⌜ r ≡ effectOf self p ⌝ }
+    {
+        match p {
+            Point::Look => self.look(),
+            Point::Grab(seen) => self.grab(seen),
+            Point::LookAgain(won) => self.look_again(won),
+            Point::ReadMark(seen, won) => self.read_mark(seen, won),
+            Point::Read(run) => self.read(run),
+            Point::Commit(run, read) => self.commit(run, read),
+            Point::Swap(run, entry, new) => self.swap(run, entry, new),
+            Point::Mark(run, said) => self.mark(run, said),
+            Point::Release(run, said) => self.release(run, said),
+        }
+    }
+}
