@@ -5,7 +5,7 @@ use mathlib.Core.Path.{_≡_, _∙_, sym}
 use mathlib.Core.Bool.{Bool, true, false, not}
 use lib.Dec.{T, eqb, leb, ltb}
 use borrow.Author.Tests.{eq-eqb, ne-eqb, le-leb, lt-leb, lt-ltb, le-ltb}
-use Rattle.parts.specs.Pick.{pick, _or_, _isnt_, onHolder, onSlot}
+use Rattle.parts.specs.Pick.{pick, _or_, onHolder, onSlot}
 use Rattle.parts.specs.Told.{_then_}
 use Rattle.parts.specs.declared.Holder.{Holder}
 use Rattle.parts.specs.declared.Holder.the-variants.{Free, Sheet}
@@ -67,12 +67,9 @@ pub pick-or : {A : Type 0} (a b : Bool) (x y z : A) → x ≡ pick a y (pick b y
 pick-or true b x y z e = e
 pick-or false b x y z e = e
 
-pub pick-isnt : {A : Type 0} (a b : ℕ) (x y z : A) → x ≡ pick (eqb a b) z y → x ≡ pick (a isnt b) y z
-pick-isnt a b x y z e = go (eqb a b) e
-  where
-    go : (q : Bool) → x ≡ pick q z y → x ≡ pick (pick q false true) y z
-    go true e = e
-    go false e = e
+pub pick-not : {A : Type 0} (b : Bool) (x y z : A) → x ≡ pick b z y → x ≡ pick (pick b false true) y z
+pick-not true x y z e = e
+pick-not false x y z e = e
 
 pub holder-free : {A : Type 0} (h : Holder) (x a : A) (f : ℕ → A) → h ≡ Free → x ≡ a → x ≡ onHolder h a f
 holder-free h x a f q e = simp q e
@@ -90,17 +87,49 @@ slot-filled h r x a f q e = simp q e
 pub then-pass : (t u x : Told) → Accepted ≡ t → x ≡ u → x ≡ (t then u)
 then-pass t u x h e = simp (← h) e
 
-pub then-stop : (t u x : Told) (r : Refusal) → Refused r ≡ t → x ≡ Refused r → x ≡ (t then u)
-then-stop t u x r h e = simp (← h) e
+pub then-stop : (t u : Told) (r : Refusal) → Refused r ≡ t → Refused r ≡ (t then u)
+then-stop t u r h = simp (← h)
+
+-- the test is a callee's result r, of which the callee ensures what it is
+pub pick-true-by : {A : Type 0} (r b : Bool) (x y z : A) → r ≡ b → r ≡ true → x ≡ y → x ≡ pick b y z
+pick-true-by r b x y z q h e = simp (sym q ∙ h) e
+
+pub pick-false-by : {A : Type 0} (r b : Bool) (x y z : A) → r ≡ b → r ≡ false → x ≡ z → x ≡ pick b y z
+pick-false-by r b x y z q h e = simp (sym q ∙ h) e
+
+-- an order of two numbers, of which callees ensure what they are
+pub pick-le-by : {A : Type 0} (r q a b : ℕ) (x y z : A) → r ≤ q → r ≡ a → q ≡ b → x ≡ y → x ≡ pick (leb a b) y z
+pick-le-by r q a b x y z h k l e = simp (le-leb a b (rw (k, l) at h)) e
+
+pub pick-nle-by : {A : Type 0} (r q a b : ℕ) (x y z : A) → q < r → r ≡ a → q ≡ b → x ≡ z → x ≡ pick (leb a b) y z
+pick-nle-by r q a b x y z h k l e = simp (lt-leb a b (rw (k, l) at h)) e
+
+-- the first of two rows is a callee's result t
+pub then-pass-by : (t u v x : Told) → t ≡ u → t ≡ Accepted → x ≡ v → x ≡ (u then v)
+then-pass-by t u v x q h e = simp (sym q ∙ h) e
+
+pub then-stop-by : (t u v : Told) (r : Refusal) → t ≡ u → t ≡ Refused r → t ≡ (u then v)
+then-stop-by t u v r q h = simp (sym q ∙ h) h
+
+-- a function by cases, f, at a value whose case is known: `search (at-case f)`
+pub at-case : {A B : Type 0} (f : A → B) (p q : A) (x : B) → p ≡ q → x ≡ f q → x ≡ f p
+at-case f p q x h e = simp h e
+
+pub at-case-of : {A B C : Type 0} (f : A → B → C) (p q : A) (y : B) (x : C) → p ≡ q → x ≡ f q y → x ≡ f p y
+at-case-of f p q y x h e = simp h e
 
 -- `wrapping_sub_u32` by what it ensures
 pub sub32 : (r x y : ℕ) → r < 2 ^ 32 → y < 2 ^ 32 → (r + y) % 2 ^ 32 ≡ x → r ≡ (x + 2 ^ 32 - y) % 2 ^ 32
 sub32 r x y h k e = omega arith
 
-pub ruleset tests = (pick-eq, pick-key, pick-ne, pick-le, pick-nle, pick-lt, pick-nlt, pick-true, pick-false, pick-eq-by, pick-ne-by, pick-eq-both, pick-ne-both, pick-or, pick-isnt)
+pub ruleset tests = (pick-eq, pick-key, pick-ne, pick-le, pick-nle, pick-lt, pick-nlt, pick-true, pick-false, pick-eq-by, pick-ne-by, pick-eq-both, pick-ne-both, pick-or, pick-not)
 
 pub ruleset cases = (holder-free, holder-sheet, slot-empty, slot-filled)
 
 pub ruleset order = (then-pass, then-stop)
 
 pub ruleset laws = (tt, tests, cases)
+
+pub ruleset calls = (pick-true-by, pick-false-by, then-pass-by, then-stop-by)
+
+pub ruleset orders = (pick-le-by, pick-nle-by)

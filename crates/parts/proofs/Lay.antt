@@ -1,7 +1,8 @@
--- The laws of `lay`: one turn of a loop that lays, its end, four elements at once, and what stands where afterwards.
+-- The laws of `lay`: one turn of a loop that lays, its end, four elements at once, one list after another, and what stands
+-- where afterwards.
 use Prim.Native.Nat.{ℕ, suc, _+_, _≤_, _<_}
 use mathlib.Core.Path.{_≡_, refl, _∙_, sym, ap}
-use mathlib.Core.List.{List, [], _∷_, _++_}
+use mathlib.Core.List.{List, [], _∷_, _++_, append-nil}
 use native.Mathlib.Numerals.{add-one}
 use native.Mathlib.Omega.{arith}
 use lib.ListN.{length, getD, take, drop, set, drop-of-length-le}
@@ -36,21 +37,31 @@ lay-four at p q r s xs l =
     lay-cons at (at + 1) p _ l refl ∙ lay-cons (at + 1) (at + 2) q _ _ (omega arith) ∙
     lay-cons (at + 2) (at + 3) r _ _ (omega arith) ∙ lay-cons (at + 3) (at + 4) s _ _ (omega arith)
 
--- a loop that has laid j of the elements lays the next
-pub lay-turn :
-    {A : Type 0} (goal l xs : List A) (at j : ℕ) (d : A) →
-    j < length xs →
-    goal ≡ lay (at + j) (drop j xs) l →
-    goal ≡ lay (at + (j + 1)) (drop (j + 1) xs) (set l (at + j) (getD xs j d))
-lay-turn goal l xs at j d h g =
-    g ∙ ap (λ (r : List _). lay (at + j) r l) (drop-cons xs j d h) ∙
-    rw add-one (lay-cons (at + j) (at + suc j) (getD xs j d) (drop (suc j) xs) l (omega arith))
-
--- a loop that has laid them all is done
-pub lay-end :
-    {A : Type 0} (goal l xs : List A) (at j : ℕ) →
-    length xs ≤ j →
-    goal ≡ lay at (drop j xs) l →
-    l ≡ goal
+-- a list laid after another is laid past it
+pub lay-append :
+    {A : Type 0} (at : ℕ) (xs ys l : List A) →
+    lay at (xs ++ ys) l ≡ lay (at + length xs) ys (lay at xs l)
 unfolding lay
-lay-end goal l xs at j h g = sym (g ∙ ap (λ (r : List _). lay at r l) (drop-of-length-le xs h))
+lay-append at [] ys l = ap (λ (k : ℕ). lay k ys l) (omega arith)
+lay-append at (x ∷ xs) ys l =
+    lay-append (at + 1) xs ys (set l at x) ∙ ap (λ (k : ℕ). lay k ys (lay (at + 1) xs (set l at x))) (omega arith)
+
+-- a list laid over one as long
+pub lay-whole : {A : Type 0} (xs l : List A) → length xs ≡ length l → lay 0 xs l ≡ xs
+lay-whole xs l h =
+    let q : length l ≤ 0 + length xs = omega arith in
+    lay-is 0 xs l (omega arith) ∙ ap (λ (r : List _). xs ++ r) (drop-of-length-le l q) ∙ append-nil xs
+
+-- a loop that has ys yet to lay from `at` on lays the first of them
+pub lay-step :
+    {A : Type 0} (goal l xs ys : List A) (at next : ℕ) (x : A) →
+    next ≡ at + 1 →
+    ys ≡ x ∷ xs →
+    goal ≡ lay at ys l →
+    goal ≡ lay next xs (set l at x)
+lay-step goal l xs ys at next x n e g = g ∙ ap (λ (r : List _). lay at r l) e ∙ lay-cons at next x xs l n
+
+-- a loop that has none yet to lay is done
+pub lay-done : {A : Type 0} (goal l ys : List A) (at : ℕ) → ys ≡ [] → goal ≡ lay at ys l → l ≡ goal
+unfolding lay
+lay-done goal l ys at e g = sym (g ∙ ap (λ (r : List _). lay at r l) e)

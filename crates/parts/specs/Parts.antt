@@ -2,6 +2,7 @@
 use Prim.Native.Nat.{ℕ, _+_, _%_, _^_}
 use mathlib.Core.Bool.{Bool, true, false}
 use lib.Dec.{eqb}
+use Rattle.parts.specs.Numbers.{lastTurn}
 use Rattle.parts.specs.Pick.{pick, onHolder, onSlot}
 use Rattle.parts.specs.declared.Entry.{Entry}
 use Rattle.parts.specs.declared.Holder.the-variants.{Free, Sheet}
@@ -62,6 +63,10 @@ committedOf e read = onSlot (e .slot) (record { slot = Filled read }) (λ first.
 -- "either way the worker goes on with what the entry holds"
 unfoldable pub holdsOf : Entry → Reading → Reading
 holdsOf e read = onSlot (e .slot) read (λ first. first)
+
+-- "the lock is free with turn 67,108,864"
+unfoldable pub wornOf : LockWord → Bool
+wornOf l = onHolder (l .holder) (eqb (l .turn) lastTurn) (λ s. false)
 
 -- "Grab. If the lock word is still what was remembered, it becomes turn + 1, held by the worker's own sheet.
 -- Otherwise nothing changes." What was remembered is free, at the turn seen.

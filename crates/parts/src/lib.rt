@@ -3,7 +3,7 @@
 ghost use mathlib.Core.Path.{_≡_};
 ghost use Rattle.parts.specs.Told.{answerNumber, refusalNumber, refusalPlace};
 ghost use Rattle.parts.specs.Instr.{setOf, addOf, subOf, overOf, wordOf, asksOf, followsOf};
-ghost use Rattle.parts.specs.Parts.{registerOf, withRegister, readingOf, swapOf, committedOf, holdsOf, grabOf, releaseOf};
+ghost use Rattle.parts.specs.Parts.{registerOf, withRegister, readingOf, swapOf, committedOf, holdsOf, wornOf, grabOf, releaseOf};
 
 pub const WORKERS: usize = 8;
 
@@ -341,6 +341,17 @@ impl Entry {
 }
 
 impl LockWord {
+    // Free at the last turn: it can't be won any more.
+    pub fn worn(self) -> bool
+        ensures { λ r. ⌜ r ≡ wornOf self ⌝ }
+    {
+        let h = self.holder;
+        match h {
+            Holder::Free => self.turn == LAST_TURN,
+            Holder::Sheet(_) => false,
+        }
+    }
+
     // Still free at the turn that Look saw: the next turn, held by the sheet. Any other stays.
     pub fn grab(self, seen: u32, sheet: u8) -> LockWord
         ensures { λ r. ⌜ r ≡ grabOf self seen sheet ⌝ }

@@ -9,12 +9,10 @@ use Rattle.parts.specs.declared.Asks.the-variants.{Halt, Go, Touch}
 use Rattle.parts.specs.declared.Follows.{Follows}
 use Rattle.parts.specs.declared.Follows.the-variants.{Done, Swap}
 use Rattle.parts.specs.declared.Registers.{Registers}
-use Rattle.steps.specs.Try.{effectOf}
 use Rattle.steps.specs.Worker.{onState}
 use Rattle.steps.specs.declared.Point.{Point}
 use Rattle.steps.specs.declared.State.{State}
 use Rattle.steps.specs.declared.State.the-variants.{Idle, UnderWay, Finished}
-use Rattle.steps.specs.declared.View.{View}
 
 pub state-idle : {A : Type 0} (s : State) (x a : A) (f : Point → A) (g : Answer → A) → s ≡ Idle → x ≡ a → x ≡ onState s a f g
 state-idle s x a f g q e = simp q e
@@ -50,9 +48,6 @@ pub follows-swap :
     {A : Type 0} (q s : Follows) (n : ℕ) (x : A) (f : Registers → A) (g : ℕ → A) →
     q ≡ s → q ≡ Swap n → x ≡ g n → x ≡ onFollows s f g
 follows-swap q s n x f g p k e = simp (sym p ∙ k) e
-
-pub at-point : (p q : Point) (v x : View) → p ≡ q → x ≡ effectOf v q → x ≡ effectOf v p
-at-point p q v x h e = simp h e
 
 pub ruleset states = (state-idle, state-way, state-end)
 

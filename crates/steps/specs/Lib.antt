@@ -1,2 +1,3 @@
 pub mod Worker
 pub mod Try
+pub mod Places

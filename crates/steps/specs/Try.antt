@@ -147,13 +147,13 @@ releaseOf v r said =
     (Finished (answerOf r (v .worker .own) said))
 
 -- "Each line but 5 is one step."
-unfoldable pub effectOf : View → Point → View
-effectOf v Look = lookOf v
-effectOf v (Grab seen) = grabOf v seen
-effectOf v (LookAgain won) = lookAgainOf v won
-effectOf v (ReadMark seen won) = readMarkOf v seen won
-effectOf v (Read r) = readOf v r
-effectOf v (Commit r read) = commitOf v r read
-effectOf v (Swap r entry new) = swapOf v r entry new
-effectOf v (Mark r said) = markOf v r said
-effectOf v (Release r said) = releaseOf v r said
+unfoldable pub effectOf : Point → View → View
+effectOf Look v = lookOf v
+effectOf (Grab seen) v = grabOf v seen
+effectOf (LookAgain won) v = lookAgainOf v won
+effectOf (ReadMark seen won) v = readMarkOf v seen won
+effectOf (Read r) v = readOf v r
+effectOf (Commit r read) v = commitOf v r read
+effectOf (Swap r entry new) v = swapOf v r entry new
+effectOf (Mark r said) v = markOf v r said
+effectOf (Release r said) v = releaseOf v r said

@@ -1,12 +1,14 @@
 // The worker, and one step of its try on the pieces that a step can touch: the worker, its lock word, one word, one log entry,
 // one instruction, one done mark. Each contract gives the result whole, by a definition of specs/.
 ghost use mathlib.Core.Path.{_≡_};
-ghost use Rattle.steps.specs.Worker.{worker0, beganOf, collectedOf, droppedOf, beginTold, stepTold, collectTold, dropTold, movedOf};
+ghost use Rattle.steps.specs.Places.{runSpot, spotOf, helpedOf};
+ghost use Rattle.steps.specs.Worker.{worker0, beganOf, collectedOf, droppedOf, beginTold, movedOf};
 
 mod trying;
 
 use parts::Answer;
 use parts::Entry;
+use parts::Holder;
 use parts::Instr;
 use parts::LockWord;
 use parts::Reading;
@@ -55,6 +57,14 @@ pub struct Worker {
     pub lock: u8,
     pub own: u8,
     pub steps: u32,
+}
+
+// Where a step of a worker is: the sheet whose instruction, log entry and done mark it can touch, the instruction's number and
+// the log place.
+pub struct Spot {
+    pub sheet: u8,
+    pub next: u8,
+    pub place: u8,
 }
 
 pub struct View {
@@ -130,39 +140,6 @@ impl Worker {
         }
     }
 
-    pub fn step_told(self) -> Told
-        ensures { λ r. ⌜ r ≡ stepTold self ⌝ }
-    {
-        let s = self.state;
-        match s {
-            State::Idle => Told::Refused(Refusal::WorkerIdle),
-            State::UnderWay(_) => Told::Accepted,
-            State::Finished(_) => Told::Refused(Refusal::NotCollected),
-        }
-    }
-
-    pub fn collect_told(self) -> Told
-        ensures { λ r. ⌜ r ≡ collectTold self ⌝ }
-    {
-        let s = self.state;
-        match s {
-            State::Idle => Told::Refused(Refusal::WorkerIdle),
-            State::UnderWay(_) => Told::Refused(Refusal::WorkerUnderWay),
-            State::Finished(_) => Told::Accepted,
-        }
-    }
-
-    pub fn drop_told(self) -> Told
-        ensures { λ r. ⌜ r ≡ dropTold self ⌝ }
-    {
-        let s = self.state;
-        match s {
-            State::Idle => Told::Refused(Refusal::WorkerIdle),
-            State::UnderWay(_) => Told::Accepted,
-            State::Finished(_) => Told::Accepted,
-        }
-    }
-
     // The worker after a step that leaves it in this state: one step more.
     pub fn moved(self, s: State) -> Worker
         ensures { λ r. ⌜ r ≡ movedOf self s ⌝ }
@@ -173,6 +150,59 @@ impl Worker {
             lock: self.lock,
             own: self.own,
             steps: n,
+        }
+    }
+}
+
+impl Run {
+    pub fn spot(self) -> Spot
+        ensures { λ s. ⌜ s ≡ runSpot self ⌝ }
+    {
+        Spot {
+            sheet: self.sheet,
+            next: self.next,
+            place: self.place,
+        }
+    }
+}
+
+impl Point {
+    // A run's spot is the run's; before it, the worker's own sheet.
+    pub fn spot(self, own: u8) -> Spot
+        ensures { λ s. ⌜ s ≡ spotOf self own ⌝ }
+    {
+        let start = Spot {
+            sheet: own,
+            next: 0,
+            place: 0,
+        };
+        match self {
+            Point::Look => start,
+            Point::Grab(_) => start,
+            Point::LookAgain(_) => start,
+            Point::ReadMark(_, _) => start,
+            Point::Read(run) => run.spot(),
+            Point::Commit(run, _) => run.spot(),
+            Point::Swap(run, _, _) => run.spot(),
+            Point::Mark(run, _) => run.spot(),
+            Point::Release(run, _) => run.spot(),
+        }
+    }
+
+    // The sheet that is helped at this point, or run: the one that Look or Look again saw.
+    pub fn helped(self) -> Holder
+        ensures { λ h. ⌜ h ≡ helpedOf self ⌝ }
+    {
+        match self {
+            Point::Look => Holder::Free,
+            Point::Grab(_) => Holder::Free,
+            Point::LookAgain(_) => Holder::Free,
+            Point::ReadMark(seen, _) => seen.holder,
+            Point::Read(run) => Holder::Sheet(run.sheet),
+            Point::Commit(run, _) => Holder::Sheet(run.sheet),
+            Point::Swap(run, _, _) => Holder::Sheet(run.sheet),
+            Point::Mark(run, _) => Holder::Sheet(run.sheet),
+            Point::Release(run, _) => Holder::Sheet(run.sheet),
         }
     }
 }

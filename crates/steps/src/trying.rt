@@ -213,7 +213,7 @@ impl View {
 
     // One step of a worker that is at this point.
     pub fn step(self, p: Point) -> View
-        ensures { λ r. ⌜ r ≡ effectOf self p ⌝ }
+        ensures { λ r. ⌜ r ≡ effectOf p self ⌝ }
     {
         match p {
             Point::Look => self.look(),

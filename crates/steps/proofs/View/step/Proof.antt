@@ -1,7 +1,7 @@
 -- Each arm is what the definition has at that point.
 use borrow.Author.Needs.{needs}
 use Rattle.steps.specs.Try.{effectOf}
-use Rattle.steps.proofs.Laws.{at-point}
+use Rattle.parts.proofs.Laws.{at-case-of}
 use Rattle.steps.proofs.View.step.Statement.{statement}
 use Rattle.steps.proofs.View.step.Tie as tie
 
@@ -28,12 +28,12 @@ step-spec =
     (λ c κs. search needs)
     (λ c. search needs)
     (λ c κs. search needs)
-    (λ c. search at-point)
-    (λ c. search at-point)
-    (λ c. search at-point)
-    (λ c. search at-point)
-    (λ c. search at-point)
-    (λ c. search at-point)
-    (λ c. search at-point)
-    (λ c. search at-point)
-    (λ c. search at-point))
+    (λ c. search (at-case-of effectOf))
+    (λ c. search (at-case-of effectOf))
+    (λ c. search (at-case-of effectOf))
+    (λ c. search (at-case-of effectOf))
+    (λ c. search (at-case-of effectOf))
+    (λ c. search (at-case-of effectOf))
+    (λ c. search (at-case-of effectOf))
+    (λ c. search (at-case-of effectOf))
+    (λ c. search (at-case-of effectOf)))

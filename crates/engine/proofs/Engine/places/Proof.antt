@@ -1,0 +1,27 @@
+-- By what the callees ensure; every place is a remainder, or made of two.
+use borrow.Author.Needs.{needs}
+use Rattle.engine.specs.Step.{placesOf}
+use Rattle.engine.proofs.Engine.places.Statement.{statement}
+use Rattle.engine.proofs.Engine.places.Tie as tie
+
+pub places-spec : {M : Type 1} → statement M
+unfolding placesOf
+places-spec =
+    tie.close
+    (tie.spec
+    (λ c. search needs)
+    (λ c. search needs)
+    (λ c κs. search needs)
+    (λ c. search needs)
+    (λ c. search needs)
+    (λ c. search needs)
+    (λ c. search needs)
+    (λ c. search needs)
+    (λ c. search needs)
+    (λ c. search needs)
+    (λ c. search needs)
+    (λ c. search needs)
+    (λ c κs. search needs)
+    (λ c. search needs)
+    (λ c. search needs)
+    (λ c. (simp (c .before .word .ensures, c .before .before .before .before .before .before .spot .ensures), search needs)))

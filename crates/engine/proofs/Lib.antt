@@ -1,0 +1,4 @@
+pub mod Laws
+pub mod Begins
+pub mod Record
+pub mod Written

@@ -1,0 +1,14 @@
+pub mod History
+pub mod Table
+pub mod Rows
+pub mod Refusals
+pub mod Numbered
+pub mod Frame
+pub mod Effect
+pub mod Taken
+pub mod Keep
+pub mod Laid
+pub mod Kept
+pub mod Records
+pub mod Park
+pub mod Bites

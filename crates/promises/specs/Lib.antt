@@ -1,0 +1,4 @@
+pub mod History
+pub mod Orders
+pub mod Table
+pub mod Good

@@ -1,0 +1,1 @@
+// The promises: theorems about the nine calls. No code.

@@ -1,0 +1,5 @@
+pub mod Fours
+pub mod Laws
+pub mod Exactly
+pub mod One
+pub mod Takes

@@ -1,0 +1,14 @@
+-- Each return is what the definition picks on the way that led there.
+use borrow.Author.Needs.{needs}
+use Rattle.parts.proofs.Laws.{calls, laws}
+use Rattle.records.proofs.job.faulty.Statement.{statement}
+use Rattle.records.proofs.job.faulty.Tie as tie
+
+pub faulty-spec : {M : Type 1} → statement M
+faulty-spec =
+    tie.close
+    (tie.spec
+    (λ c κs. search needs)
+    (λ c. search (laws, calls) depth 8)
+    (λ c κs. search needs)
+    (λ c. search (laws, calls) depth 8))
