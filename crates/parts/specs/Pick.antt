@@ -8,6 +8,8 @@ use Rattle.parts.specs.declared.Reading.{Reading}
 use Rattle.parts.specs.declared.Slot.{Slot}
 use Rattle.parts.specs.declared.Slot.the-variants.{Empty, Filled}
 
+infixr 25 _or_
+infixr 30 _isnt_
 -- the first where the test holds, the second where not
 abbrev pub pick : {A : Type 0} → Bool → A → A → A
 pick true a b = a
@@ -17,12 +19,10 @@ pick false a b = b
 abbrev pub _or_ : Bool → Bool → Bool
 a or b = pick a true b
 
-infixr 25 _or_
 -- two numbers differ
 abbrev pub _isnt_ : ℕ → ℕ → Bool
 a isnt b = pick (eqb a b) false true
 
-infixr 30 _isnt_
 -- of a lock word's holder: where it is free; where a sheet holds it
 abbrev pub onHolder : {A : Type 0} → Holder → A → (ℕ → A) → A
 onHolder Free a f = a

@@ -10,6 +10,7 @@ use Rattle.parts.specs.declared.Refusal.the-variants.{NoWorker, NoLock, 
 use Rattle.parts.specs.declared.Told.{Told}
 use Rattle.parts.specs.declared.Told.the-variants.{Accepted, Refused}
 
+infixr 20 _then_
 -- "Collected answers: 1 ran, yes. 2 ran, no. 3 not taken"
 unfoldable pub answerNumber : Answer → ℕ
 answerNumber RanYes = 1
@@ -68,7 +69,6 @@ abbrev pub _then_ : Told → Told → Told
 Accepted then u = u
 (Refused r) then u = Refused r
 
-infixr 20 _then_
 -- a call's order: the first row that refuses
 abbrev pub firstOf : List Told → Told
 firstOf [] = Accepted
