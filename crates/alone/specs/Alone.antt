@@ -30,8 +30,8 @@ abbrev pub touchedWords : Instr → Registers → ℕ → List ℕ → List ℕ
 touchedWords i r w words = onFollows (followsOf i r (getD words w 0)) (λ next. words) (λ new. set words w new)
 
 -- The rest of a program, from the instruction that is reached once n are passed over, with the registers, the words' values
--- and the number executed so far. "A skip goes on with the rest of the program from the instruction reached, and the length
--- of what is left falls." A program that ends with no halt answers no: no job that was checked does.
+-- and the number executed so far. "a skip goes on with the rest of the program from the instruction reached, and the length
+-- of what is left falls". A program that ends with no halt answers no: no job that was checked does.
 unfoldable pub aloneFrom : ℕ → List Instr → Registers → List ℕ → ℕ → Left
 aloneFrom n [] r words k = record { yes = false; executed = k; words = words }
 aloneFrom (suc n) (i ∷ is) r words k = aloneFrom n is r words k

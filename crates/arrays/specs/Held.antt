@@ -1,4 +1,4 @@
--- "15: park: a lock is held; lowest held lock"
+-- 15: "park: a lock is held", at the "lowest held lock"
 use Prim.Native.Nat.{ℕ, _+_}
 use mathlib.Core.List.{List, [], _∷_}
 use Rattle.parts.specs.Pick.{onHolder}

@@ -20,6 +20,7 @@ use parts::Instr;
 use parts::LAST_TURN;
 use parts::LOCKS;
 use parts::LockWord;
+use parts::REGISTERS;
 use parts::Refusal;
 use parts::SHEETS;
 use parts::Slot;
@@ -100,6 +101,10 @@ impl Engine {
     pub const SHEETS: usize = SHEETS;
 
     pub const INSTRUCTIONS: usize = INSTRUCTIONS;
+
+    pub const REGISTERS: usize = REGISTERS;
+
+    pub const ENTRIES: usize = ENTRIES;
 
     pub const LAST_TURN: u32 = LAST_TURN;
 

@@ -10,15 +10,10 @@ use lib.Dec.{eqb}
 use lib.ListN.{length, getD}
 use borrow.Author.Tests.{eqb-true}
 use Rattle.parts.specs.Pick.{pick, _or_, _isnt_}
-use Rattle.parts.specs.Told.{_then_, refuseIf, firstOf}
+use Rattle.parts.specs.Told.{_then_, refuseIf, firstOf, FirstAt}
 use Rattle.parts.specs.declared.Refusal.{Refusal}
 use Rattle.parts.specs.declared.Told.{Told}
 use Rattle.parts.specs.declared.Told.the-variants.{Accepted, Refused}
-
--- row i refuses with r, and every row before it accepts
-abbrev pub FirstAt : List Told → Refusal → ℕ → Type 0
-FirstAt rows r i =
-    (i < length rows) × (getD rows i Accepted ≡ Refused r) × ((j : ℕ) → j < i → getD rows j Accepted ≡ Accepted)
 
 -- the first row, and the order of those after it
 pub first-cons : (t : Told) (ts : List Told) → firstOf (t ∷ ts) ≡ (t then firstOf ts)

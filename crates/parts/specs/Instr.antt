@@ -11,18 +11,18 @@ use Rattle.parts.specs.declared.Follows.the-variants.{Done, Swap}
 use Rattle.parts.specs.declared.Instr.{Instr}
 use Rattle.parts.specs.declared.Registers.{Registers}
 
--- "1 set: register a becomes b + 256c"
+-- set: "register a becomes b + 256c"
 abbrev pub setOf : Instr → Registers → Registers
 setOf i r = withRegister r (i .a) (i .b + 256 * i .c)
 
--- "5 add, 6 sub: register a plus or minus register b, modulo 2 to the 32nd"
+-- add and sub: "register a plus or minus register b, modulo 2 to the 32nd"
 abbrev pub addOf : Instr → Registers → Registers
 addOf i r = withRegister r (i .a) ((registerOf r (i .a) + registerOf r (i .b)) % 2 ^ 32)
 
 abbrev pub subOf : Instr → Registers → Registers
 subOf i r = withRegister r (i .a) ((registerOf r (i .a) + 2 ^ 32 - registerOf r (i .b)) % 2 ^ 32)
 
--- "7 skip: if registers a and b are equal, pass over the next c instructions"
+-- skip: "if registers a and b are equal, pass over the next c instructions"
 abbrev pub overOf : Instr → Registers → ℕ
 overOf i r = pick (eqb (registerOf r (i .a)) (registerOf r (i .b))) (i .c) 0
 
@@ -30,8 +30,8 @@ overOf i r = pick (eqb (registerOf r (i .a)) (registerOf r (i .b))) (i .c) 0
 unfoldable pub wordOf : Instr → ℕ
 wordOf i = pick (eqb (i .op) 4) (i .c) (i .b)
 
--- "The first byte of an instruction decides among eight meanings, and 8 to 255 are bad": the first step of each.
--- "0 halt: the job's answer is no (a = 0) or yes (a = 1)"
+-- "The first byte of an instruction decides among eight meanings": what the first step of each finds. Halt: "the job's answer is
+-- no (a = 0) or yes (a = 1)". No job that was checked has an op above 7.
 unfoldable pub asksOf : Instr → Registers → Asks
 asksOf i r =
     pick (eqb (i .op) 0) (Halt (eqb (i .a) 1))
@@ -44,8 +44,7 @@ asksOf i r =
     (pick (eqb (i .op) 7) (Go r (overOf i r))
     (Halt false))))))))
 
--- "2 load: register a becomes word b", "3 store: word b becomes register a",
--- "4 cam: if word c equals register a it becomes register b"
+-- load: "register a becomes word b"; store: "word b becomes register a"; cam: "if word c equals register a it becomes register b"
 unfoldable pub followsOf : Instr → Registers → ℕ → Follows
 followsOf i r value =
     pick (eqb (i .op) 2) (Done (withRegister r (i .a) value))

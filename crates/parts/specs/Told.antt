@@ -1,7 +1,9 @@
 -- Answers and refusals with document 01's numbers and places, and the order in which refusals are given.
-use Prim.Native.Nat.{ℕ}
+use Prim.Native.Nat.{ℕ, _<_}
+use mathlib.Core.Path.{_≡_}
 use mathlib.Core.Bool.{Bool}
 use mathlib.Core.List.{List, [], _∷_}
+use lib.ListN.{length, getD}
 use Rattle.parts.specs.Pick.{pick}
 use Rattle.parts.specs.declared.Answer.{Answer}
 use Rattle.parts.specs.declared.Answer.the-variants.{RanYes, RanNo, NotTaken}
@@ -74,3 +76,8 @@ abbrev pub firstOf : List Told → Told
 firstOf [] = Accepted
 firstOf (t ∷ []) = t
 firstOf (t ∷ u ∷ ts) = t then firstOf (u ∷ ts)
+
+-- row i refuses with r, and every row before it accepts
+abbrev pub FirstAt : List Told → Refusal → ℕ → Type 0
+FirstAt rows r i =
+    (i < length rows) × (getD rows i Accepted ≡ Refused r) × ((j : ℕ) → j < i → getD rows j Accepted ≡ Accepted)

@@ -16,6 +16,8 @@ pub const SHEETS: usize = 32;
 // In a job, and log entries on a sheet.
 pub const INSTRUCTIONS: usize = 32;
 
+pub const REGISTERS: usize = 4;
+
 // All sheets' entries, and all sheets' instructions.
 pub const ENTRIES: usize = SHEETS * INSTRUCTIONS;
 

@@ -11,9 +11,10 @@ use Rattle.parts.specs.Parts.{instr0, entry0, lock0, word0}
 use Rattle.parts.specs.declared.Told.{Told}
 use Rattle.parts.specs.declared.Told.the-variants.{Accepted}
 use Rattle.parts.proofs.Lay.{length-lay}
+use Rattle.records.specs.Bytes.{AllBytes}
 use Rattle.records.specs.Job.{jobOf}
 use Rattle.records.specs.Setup.{locksField, setupTold}
-use Rattle.records.proofs.One.{AllBytes, setup-sized}
+use Rattle.records.proofs.One.{setup-sized}
 use Rattle.steps.specs.Try.{effectOf}
 use Rattle.steps.specs.Worker.{worker0, lookingOf, beganOf, collectedOf, droppedOf}
 use Rattle.steps.specs.declared.Point.{Point}

@@ -12,3 +12,4 @@ pub mod Kept
 pub mod Records
 pub mod Park
 pub mod Bites
+pub mod There

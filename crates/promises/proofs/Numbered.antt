@@ -1,7 +1,8 @@
 -- A refusal's number and place tell it, and an answer's number the answer: no two have the same. The numbers are document 01's,
 -- from 1 to 16.
 use Prim.Native.Nat.{ℕ, _≤_}
-use mathlib.Core.Path.{_≡_, refl, _∙_, sym}
+use mathlib.Core.Path.{_≡_, refl, _∙_, sym, ap}
+use mathlib.Core.Logic.{_↔_}
 use native.Mathlib.Omega.{arith}
 use lib.Dec.{eqb}
 use Rattle.parts.specs.Pick.{pick}
@@ -9,7 +10,10 @@ use Rattle.parts.specs.Told.{answerNumber, refusalNumber, refusalPlace}
 use Rattle.parts.specs.declared.Answer.{Answer}
 use Rattle.parts.specs.declared.Answer.the-variants.{RanYes, RanNo, NotTaken}
 use Rattle.parts.specs.declared.Refusal.{Refusal}
+use Rattle.parts.specs.declared.Told.{Told}
+use Rattle.parts.specs.declared.Told.the-variants.{Accepted, Refused}
 use Rattle.parts.specs.declared.Refusal.the-variants.{NoWorker, NoLock, WorkerUnderWay, NotCollected, Length, Kind, Instruction, Guard, LastTurn, NoSheet, WorkerIdle, Range, Buffer, SheetFree, Held, NoWord}
+use Rattle.promises.specs.Orders.{Refuses}
 
 -- the refusal of a number and a place, and the answer of a number
 unfoldable refusalAt : ℕ → ℕ → Refusal
@@ -86,3 +90,10 @@ number-range Buffer = (omega arith, omega arith)
 number-range SheetFree = (omega arith, omega arith)
 number-range (Held p) = (omega arith, omega arith)
 number-range NoWord = (omega arith, omega arith)
+
+-- a call is refused with a refusal's number and place exactly when it is refused with it
+pub by-number :
+    (told : Told) (r : Refusal) → Refuses told (refusalNumber r) (refusalPlace r) ↔ (told ≡ Refused r)
+by-number Accepted r = (λ h. absurd h, λ h. let z : _≡_ {A = ℕ} 0 1 = cc in absurd (omega arith))
+by-number (Refused s) r =
+    (λ (n, p). ap Refused (number-one s r n p), λ h. let q : s ≡ r = cc in (ap refusalNumber q, ap refusalPlace q))

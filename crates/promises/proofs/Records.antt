@@ -15,9 +15,10 @@ use Rattle.parts.specs.declared.Refusal.the-variants.{WorkerUnderWay, NotCollec
 use Rattle.parts.specs.declared.Told.{Told}
 use Rattle.parts.specs.declared.Told.the-variants.{Accepted, Refused}
 use Rattle.parts.proofs.Lay.{length-lay}
+use Rattle.records.specs.Bytes.{AllBytes}
 use Rattle.records.specs.Job.{jobOf, jobRecord}
 use Rattle.records.proofs.Fours.{code-length}
-use Rattle.records.proofs.One.{AllBytes, job-back}
+use Rattle.records.proofs.One.{job-back}
 use Rattle.sheets.specs.Sheets.{workerKeeps}
 use Rattle.sheets.proofs.Lowest.{takes-lowest, by-worker}
 use Rattle.steps.specs.Worker as steps

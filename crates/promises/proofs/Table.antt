@@ -26,13 +26,13 @@ table =
       s = refl;
       a = record { before = refl; told = (refl, refl); left = record { word = refl; lock = refl } };
       b = record { before = refl; told = (refl, refl); left = record { word = refl; lock = refl } };
-      c = record { word = refl; lock = refl };
+      c = (record { word = refl; lock = refl }, refl);
       d = record { before = refl; told = (refl, refl); left = record { word = refl; lock = refl } };
       e = (
         record { before = refl; told = (refl, refl); left = record { word = refl; lock = refl } },
         record { before = refl; told = (refl, refl); left = record { word = refl; lock = refl } },
       );
-      f = record { word = refl; lock = refl };
+      f = (refl, record { word = refl; lock = refl }, refl);
       g = record { before = refl; told = (refl, refl); left = record { word = refl; lock = refl } };
       h = (
         record { before = refl; told = (refl, refl); left = record { word = refl; lock = refl } },

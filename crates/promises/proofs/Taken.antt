@@ -16,11 +16,11 @@ use Rattle.parts.specs.Told.{refuseIf}
 use Rattle.parts.specs.declared.Refusal.the-variants.{NoWorker, NoLock, Kind, Length, LastTurn, NoSheet}
 use Rattle.parts.specs.declared.Told.the-variants.{Accepted}
 use Rattle.parts.proofs.Order.{first-all, both-pass, row-passes, neither, not-isnt}
-use Rattle.records.specs.Bytes.{u32sOf, lengthTold, kindField}
+use Rattle.records.specs.Bytes.{AllBytes, u32sOf, lengthTold, kindField}
 use Rattle.records.specs.Job.{jobKind, instrsOf, jobOf, noJobLength, codeTold, jobTold}
 use Rattle.records.specs.Setup.{locksField, wordsField, guardsField, valuesField, turnsField, setupTold}
 use Rattle.records.proofs.Fours.{instrs-length}
-use Rattle.records.proofs.One.{AllBytes, setup-sized}
+use Rattle.records.proofs.One.{setup-sized}
 use Rattle.records.proofs.Takes.{guards-below, turns-below}
 use Rattle.steps.specs.Worker as steps
 use Rattle.engine.specs.State.{lockCount, wordsOf, workerAt, lockAt, freeSheet}

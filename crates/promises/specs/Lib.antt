@@ -2,3 +2,4 @@ pub mod History
 pub mod Orders
 pub mod Table
 pub mod Good
+pub mod Records

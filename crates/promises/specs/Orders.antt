@@ -11,7 +11,7 @@ use Rattle.arrays.specs.Fresh.{guardsOf}
 use Rattle.parts.specs.Numbers.{workers, mostLocks, mostWords, sheets, lastTurn}
 use Rattle.parts.specs.Parts.{wornOf}
 use Rattle.parts.specs.Pick.{_or_, _isnt_, onHolder}
-use Rattle.parts.specs.Told.{refuseIf, refusalNumber, refusalPlace}
+use Rattle.parts.specs.Told.{refuseIf, refusalNumber, refusalPlace, FirstAt}
 use Rattle.parts.specs.declared.Answer.{Answer}
 use Rattle.parts.specs.declared.Instr.{Instr}
 use Rattle.parts.specs.declared.LockWord.{LockWord}
@@ -19,7 +19,6 @@ use Rattle.parts.specs.declared.Refusal.{Refusal}
 use Rattle.parts.specs.declared.Refusal.the-variants.{NoWorker, NoLock, WorkerUnderWay, NotCollected, Length, Kind, Instruction, Guard, LastTurn, NoSheet, WorkerIdle, Range, Buffer, SheetFree, Held, NoWord}
 use Rattle.parts.specs.declared.Told.{Told}
 use Rattle.parts.specs.declared.Told.the-variants.{Accepted, Refused}
-use Rattle.parts.proofs.Order.{FirstAt}
 use Rattle.records.specs.Bytes.{kindField, lengthField}
 use Rattle.records.specs.Job.{jobKind, jobOf, badlyFormed, endsOtherwise, straysAt, noJobLength}
 use Rattle.records.specs.Setup.{setupKind, locksField, wordsField, guardsField, turnsField, setupLength, outside}

@@ -5,7 +5,7 @@ use mathlib.Core.List.{List, [], _∷_, _++_}
 use Rattle.parts.specs.Told.{answerNumber}
 use Rattle.parts.specs.declared.Holder.{Holder}
 use Rattle.parts.specs.declared.Holder.the-variants.{Free, Sheet}
-use Rattle.parts.specs.declared.Refusal.the-variants.{WorkerUnderWay}
+use Rattle.parts.specs.declared.Refusal.the-variants.{WorkerUnderWay, WorkerIdle}
 use Rattle.parts.specs.declared.Told.the-variants.{Accepted}
 use Rattle.engine.specs.Calls.{setupOf, beginOf, collectOf, readWordOf, readLockOf}
 use Rattle.engine.specs.declared.CollectTold.{CollectTold}
@@ -52,6 +52,10 @@ Answers (CollectTold.Refused r) number steps = ⊥
 -- collect is refused, because the worker is under way
 abbrev pub StillUnderWay : CollectTold → Type 0
 StillUnderWay told = told ≡ CollectTold.Refused WorkerUnderWay
+
+-- collect is refused, because the worker is idle
+abbrev pub NowIdle : CollectTold → Type 0
+NowIdle told = told ≡ CollectTold.Refused WorkerIdle
 
 -- word 0 has this value and count, and lock 0 this turn and holder
 pub record Stands (e : Engine) (value count turn : ℕ) (holder : Holder) : Type 0 where
@@ -100,7 +104,8 @@ callsG = Begin 0 0 jobA ∷ Begin 1 0 jobB ∷ Step 0 ∷ Step 1 ∷ Step 0 ∷ 
 unfoldable pub callsH : List Call
 callsH = Begin 0 0 jobA ∷ steps 2 0 ++ (Begin 1 0 jobB ∷ [])
 
--- the starred rows, each under its two columns; and setup S is accepted. In e and h worker 1's end comes first.
+-- the starred rows, each under its two columns; and setup S is accepted. In c and f the drop leaves worker 0
+-- idle; in e and h worker 1's end comes first.
 pub record Table : Type 0 where
   pub s : setupOf setupS .told ≡ Accepted
   -- "A stepped alone": "14 steps, ran yes, word 0 = 6, count 1, turn 1"
@@ -108,7 +113,7 @@ pub record Table : Type 0 where
   -- "B alone": "12 steps, ran no"
   pub b : Ends (Begin 0 0 jobB ∷ []) 0 (record { more = 12; answer = ranNo; steps = 12; value = 5; count = 0; turn = 1 })
   -- "worker 0: A, 10 steps, drop": "word 0 = 5, held"
-  pub c : Stands (on callsC) 5 0 1 (Sheet 0)
+  pub c : Stands (on callsC) 5 0 1 (Sheet 0) × NowIdle (collectOf (on callsC) 0 .told)
   -- "then worker 1: B alone": "11 steps, not taken, word 0 = 6, free"
   pub d : Ends callsD 1 (record { more = 11; answer = notTaken; steps = 11; value = 6; count = 1; turn = 1 })
   -- "as c, d without the drop, then worker 0 stepped to its end": "14 steps, ran yes, count 1"
@@ -116,7 +121,10 @@ pub record Table : Type 0 where
       Ends callsE 1 (record { more = 11; answer = notTaken; steps = 11; value = 6; count = 1; turn = 1 }) ×
       Ends (callsE ++ steps 11 1) 0 (record { more = 4; answer = ranYes; steps = 14; value = 6; count = 1; turn = 1 })
   -- "A, 1 step, drop": "free, turn 0"
-  pub f : Stands (on (Begin 0 0 jobA ∷ Step 0 ∷ Drop 0 ∷ [])) 5 0 0 Free
+  pub f :
+      StillUnderWay (collectOf (on (Begin 0 0 jobA ∷ Step 0 ∷ [])) 0 .told) ×
+      Stands (on (Begin 0 0 jobA ∷ Step 0 ∷ Drop 0 ∷ [])) 5 0 0 Free ×
+      NowIdle (collectOf (on (Begin 0 0 jobA ∷ Step 0 ∷ Drop 0 ∷ [])) 0 .told)
   -- "0 has A, 1 has B, both Look free, 0 grabs, then 1 alone": "worker 1: 14 steps, not taken, word 0 = 6"
   pub g : Ends callsG 1 (record { more = 13; answer = notTaken; steps = 14; value = 6; count = 1; turn = 1 })
   -- "0 takes 2 steps of A, 1 with B helps to the end, 0 goes on": "ran yes, count 1"

@@ -7,12 +7,12 @@ use native.Mathlib.Nat.{zero-add}
 use native.Mathlib.Omega.{arith}
 use lib.ListN.{length, getD}
 use Rattle.parts.specs.Parts.{instr0}
-use Rattle.parts.specs.Told.{_then_, firstOf}
+use Rattle.parts.specs.Told.{_then_, firstOf, FirstAt}
 use Rattle.parts.specs.declared.Instr.{Instr}
 use Rattle.parts.specs.declared.Refusal.{Refusal}
 use Rattle.parts.specs.declared.Told.{Told}
 use Rattle.parts.specs.declared.Told.the-variants.{Accepted, Refused}
-use Rattle.parts.proofs.Order.{FirstAt, first-cons, first-exactly}
+use Rattle.parts.proofs.Order.{first-cons, first-exactly}
 use Rattle.records.specs.Job.{instrTold, codeTold}
 
 -- what is told of instruction k of a job, by itself

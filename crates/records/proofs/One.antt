@@ -15,15 +15,11 @@ use Rattle.parts.specs.declared.Instr.{Instr}
 use Rattle.parts.specs.declared.Refusal.the-variants.{Length, Kind, Range}
 use Rattle.parts.specs.declared.Told.the-variants.{Accepted}
 use Rattle.parts.proofs.Order.{first-all, row-passes, neither, not-isnt}
-use Rattle.records.specs.Bytes.{u32sBytes, kindField, lengthTold, header}
+use Rattle.records.specs.Bytes.{AllBytes, u32sBytes, kindField, lengthTold, header}
 use Rattle.records.specs.Job.{jobKind, jobOf, jobRecord, noJobLength, codeTold, jobTold}
 use Rattle.records.specs.Setup.{setupKind, locksField, wordsField, guardsField, valuesField, turnsField, setupLength, setupRecord, outside, guardsTold, turnsTold, setupTold}
 use Rattle.records.proofs.Fours.{instrs-length, u32s-length, code-of-instrs, bytes-of-u32s}
 use Rattle.records.proofs.Laws.{length-known}
-
--- every element is a byte
-abbrev pub AllBytes : List ℕ → Type 0
-AllBytes s = (k : ℕ) → getD s k 0 < 256
 
 drop-bytes : (n : ℕ) (s : List ℕ) → AllBytes s → AllBytes (drop n s)
 drop-bytes n s h k = omega (arith, getD-drop n s k 0, h (n + k))

@@ -1,5 +1,5 @@
 -- "Little-endian. Bytes 0 and 1: length of the whole record. Bytes 2 and 3: kind."
-use Prim.Native.Nat.{ℕ, _+_, _*_, _/_, _%_}
+use Prim.Native.Nat.{ℕ, _+_, _*_, _/_, _%_, _<_}
 use mathlib.Core.List.{List, [], _∷_}
 use lib.Dec.{ltb}
 use lib.ListN.{length, getD}
@@ -7,6 +7,10 @@ use Rattle.parts.specs.Pick.{_or_, _isnt_}
 use Rattle.parts.specs.Told.{refuseIf}
 use Rattle.parts.specs.declared.Refusal.the-variants.{Length}
 use Rattle.parts.specs.declared.Told.{Told}
+
+-- every element is a byte
+abbrev pub AllBytes : List ℕ → Type 0
+AllBytes s = (k : ℕ) → getD s k 0 < 256
 
 -- the number of two bytes, and of four
 abbrev pub u16Of : ℕ → ℕ → ℕ

@@ -45,7 +45,7 @@ abbrev pub noRegister : ℕ → Bool
 noRegister r = ltb lastRegister r
 
 -- An instruction that `left` others follow is badly formed. "A skip at place i needs i + 1 + c at most n - 1": c is below what
--- follows. The fields that have no meaning are 0.
+-- follows. The fields that have no meaning are 0, "and 8 to 255 are bad".
 unfoldable pub badlyFormed : Instr → ℕ → Bool
 badlyFormed i left =
     pick (eqb (i .op) 0) (ltb 1 (i .a) or ltb 0 (i .b) or ltb 0 (i .c))

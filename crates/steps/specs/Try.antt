@@ -107,15 +107,15 @@ readMarkOf v seen won =
     pick (eqb s (v .worker .own)) (atOf v (Read (startOf (v .worker .own) won)))
     (atOf v (Read (startOf s (seen .turn))))))
 
--- "5. Run. Set, add, sub, skip and halt: one step each. Load: read the word. Store: read. Cam: read."
+-- "5. Run .. Set, add, sub, skip and halt: one step each. Load: read the word; .. Store: read; .. Cam: read; .."
 unfoldable pub readOf : View → Run → View
 readOf v r =
     onAsks (asksOf (v .instr) (r .registers)) (λ said. atOf v (Mark r said))
     (λ registers over. atOf v (Read (ontoOf r over registers)))
     (λ w. atOf v (Commit r (readingOf (v .word))))
 
--- "Load: commit. Store: commit; swap. Cam: commit; swap, the last only if the committed value equals register a." What follows
--- of the entry's value: the next instruction, or the swap
+-- "Load: .. commit. Store: .. commit; swap. Cam: .. commit; swap, the last only if the committed value equals register a." What
+-- follows of the entry's value: the next instruction, or the swap
 unfoldable pub followOf : View → Run → Reading → View
 followOf v r held =
     onFollows (followsOf (v .instr) (r .registers) (held .value)) (λ registers. atOf v (Read (ontoOf r 0 registers)))

@@ -25,11 +25,11 @@ worker0 = record { state = Idle; lock = 0; own = 0; steps = 0 }
 abbrev pub lookingOf : ℕ → ℕ → Worker
 lookingOf lock sheet = record { state = UnderWay Look; lock = lock; own = sheet; steps = 0 }
 
--- "a worker can't begin again until its last answer is collected or it is dropped"
+-- A worker can't begin again until its last answer is collected or it is dropped: any other than an idle one stays.
 unfoldable pub beganOf : Worker → ℕ → ℕ → Worker
 beganOf k lock sheet = onState (k .state) (lookingOf lock sheet) (λ p. k) (λ x. k)
 
--- "Collect (worker) ... makes the worker idle."
+-- "Collect (worker) .. makes the worker idle."
 unfoldable pub collectedOf : Worker → Worker
 collectedOf k = onState (k .state) k (λ p. k) (λ x. worker0)
 
@@ -37,8 +37,8 @@ collectedOf k = onState (k .state) k (λ p. k) (λ x. worker0)
 unfoldable pub droppedOf : Worker → Worker
 droppedOf k = onState (k .state) k (λ p. worker0) (λ x. worker0)
 
--- The refusals that go by the worker's state. "3: begin or collect: worker under way", "4: begin or step: answer not collected",
--- "11: step, collect or drop: worker idle"
+-- The refusals that go by the worker's state. 3: "begin or collect: worker under way"; 4: "begin or step: answer not collected";
+-- 11: "step, collect or drop: worker idle"
 unfoldable pub beginTold : Worker → Told
 beginTold k = onState (k .state) Accepted (λ p. Refused WorkerUnderWay) (λ x. Refused NotCollected)
 
