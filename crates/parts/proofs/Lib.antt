@@ -1,3 +1,4 @@
 pub mod Laws
 pub mod Lay
 pub mod Order
+pub mod Touch

@@ -13,3 +13,4 @@ pub mod Records
 pub mod Park
 pub mod Bites
 pub mod There
+pub mod Spare
