@@ -1,0 +1,332 @@
+//! The checker of demand 3. It makes the calls on an engine, keeps for each
+//! lock the list of tries that won it, and after every call holds the lock's
+//! words against that list. It knows of the engine only what its calls tell.
+
+use crate::alone;
+use crate::engine::{Engine, Instruction, LockWord, Standing, Wrong};
+use crate::generate::{Generator, Kind};
+use crate::script::{perform, Call, Outcome, Told};
+
+/// A try, from its begin on; its number is its place among all begins.
+#[derive(Clone, Debug)]
+struct Try {
+    lock: usize,
+    program: Vec<Instruction>,
+    /// The accepted steps since begin.
+    steps: u32,
+    /// The first step found the lock held.
+    helps_first: bool,
+    /// It is in its lock's list; the answer is that of its run alone there.
+    won: Option<bool>,
+    /// Its answer was handed out.
+    answered: bool,
+}
+
+/// What is kept for one lock.
+#[derive(Clone, Debug)]
+struct Kept {
+    /// The words it guards.
+    guarded: Vec<usize>,
+    /// The numbers of the tries that won it, in order.
+    list: Vec<usize>,
+    /// All words' values (those guarded here matter) after each number of
+    /// executed instructions of the list's last job, from none to all, when
+    /// the jobs before it have run; the values at setup while there is none.
+    parts: Vec<Vec<u32>>,
+    /// The turn at setup, and the lock word after the last call.
+    first_turn: u32,
+    seen: LockWord,
+}
+
+/// What was found to be broken, in words.
+pub type Broken = String;
+
+/// An engine, and what its calls so far have to come to.
+pub struct Checker {
+    engine: Engine,
+    at_setup: Vec<u32>,
+    kept: Vec<Kept>,
+    tries: Vec<Try>,
+    /// The number of each worker's try.
+    current: [Option<usize>; Engine::WORKERS],
+}
+
+impl Checker {
+    pub fn new(engine: Engine) -> Checker {
+        let mut checker = Checker {
+            engine,
+            at_setup: Vec::new(),
+            kept: Vec::new(),
+            tries: Vec::new(),
+            current: [None; Engine::WORKERS],
+        };
+        checker.start_afresh();
+        checker
+    }
+
+    pub fn engine(&self) -> &Engine {
+        &self.engine
+    }
+
+    /// The numbers of the tries that won a lock, in order.
+    pub fn list(&self, lock: usize) -> &[usize] {
+        &self.kept[lock].list
+    }
+
+    /// Makes a call and checks what came of it. Several steps in one call
+    /// are checked one by one.
+    pub fn call(&mut self, call: &Call) -> Result<Outcome, Broken> {
+        let Call::Step { worker, times } = *call else {
+            return self.single(call);
+        };
+        let mut accepted = 0;
+        let mut refusal = None;
+        while accepted < times && refusal.is_none() {
+            refusal = self.single(&Call::Step { worker, times: 1 })?.refusal;
+            accepted += u32::from(refusal.is_none());
+        }
+        let told = Told::Steps(accepted);
+        Ok(Outcome { refusal, told })
+    }
+
+    fn single(&mut self, call: &Call) -> Result<Outcome, Broken> {
+        let outcome = perform(&mut self.engine, call);
+        let mut stepped = None;
+        let accepted = outcome.refusal.is_none();
+        match call {
+            Call::Setup(_) => self.start_afresh(),
+            Call::Begin {
+                worker,
+                lock,
+                record,
+            } if accepted => self.note_begin(*worker, *lock, record),
+            Call::Step { worker, .. } if accepted => stepped = Some(self.note_step(*worker)?),
+            Call::Collect(worker) if accepted => self.note_collect(*worker, &outcome.told)?,
+            Call::Drop(worker) if accepted => self.current[*worker as usize] = None,
+            _ => {}
+        }
+        for lock in 0..self.kept.len() {
+            self.check_lock(lock, stepped)?;
+            self.check_words(lock)?;
+        }
+        Ok(outcome)
+    }
+
+    /// Reads the state that a setup, accepted or refused, has given.
+    fn start_afresh(&mut self) {
+        let engine = &self.engine;
+        let words = (0..).map_while(|word| engine.read_word(word).ok());
+        let words: Vec<_> = words.collect();
+        let locks = (0..).map_while(|lock| engine.read_lock(lock).ok());
+        self.at_setup = words.iter().map(|word| word.value).collect();
+        self.kept = locks
+            .enumerate()
+            .map(|(lock, seen)| Kept {
+                guarded: (0..words.len())
+                    .filter(|&word| words[word].guard == lock)
+                    .collect(),
+                list: Vec::new(),
+                parts: vec![self.at_setup.clone()],
+                first_turn: seen.turn,
+                seen,
+            })
+            .collect();
+        self.tries = Vec::new();
+        self.current = [None; Engine::WORKERS];
+    }
+
+    fn note_begin(&mut self, worker: u32, lock: u32, record: &[u8]) {
+        let four = |bytes: &[u8]| [bytes[0], bytes[1], bytes[2], bytes[3]];
+        self.current[worker as usize] = Some(self.tries.len());
+        self.tries.push(Try {
+            lock: lock as usize,
+            program: record[4..].chunks(4).map(four).collect(),
+            steps: 0,
+            helps_first: false,
+            won: None,
+            answered: false,
+        });
+    }
+
+    /// An accepted step: the try is still within its bound.
+    fn note_step(&mut self, worker: u32) -> Result<usize, Broken> {
+        let Some(number) = self.current[worker as usize] else {
+            return Err(format!("worker {worker} steps without a try"));
+        };
+        let attempt = &mut self.tries[number];
+        if attempt.steps == 0 {
+            attempt.helps_first = self.kept[attempt.lock].seen.sheet.is_some();
+        }
+        attempt.steps += 1;
+        let bound = if attempt.helps_first {
+            Engine::LONGEST_HELP
+        } else {
+            Engine::LONGEST_TRY
+        };
+        if attempt.steps > bound {
+            return Err(format!("try {number} takes more than {bound} steps"));
+        }
+        Ok(number)
+    }
+
+    /// An accepted collect: the answer is the list's, the number the steps'.
+    fn note_collect(&mut self, worker: u32, told: &Told) -> Result<(), Broken> {
+        let Some(number) = self.current[worker as usize].take() else {
+            return Err(format!("worker {worker} collects without a try"));
+        };
+        let &Told::Collected { answer, steps } = told else {
+            return Err(format!("a collect tells {told:?}"));
+        };
+        let attempt = &mut self.tries[number];
+        attempt.answered = true;
+        if steps != attempt.steps {
+            let accepted = attempt.steps;
+            return Err(format!("try {number} tells {steps} steps, not {accepted}"));
+        }
+        let right = match attempt.won {
+            Some(true) => 1,
+            Some(false) => 2,
+            None => 3,
+        };
+        if answer != right {
+            return Err(format!("try {number} is told answer {answer}, not {right}"));
+        }
+        Ok(())
+    }
+
+    /// A lock word changes only in a step: won from free, with the next
+    /// turn, by the try that made the step; or released, with the same turn.
+    fn check_lock(&mut self, lock: usize, stepped: Option<usize>) -> Result<(), Broken> {
+        let Ok(now) = self.engine.read_lock(lock as u32) else {
+            return Err(format!("lock {lock} can't be read"));
+        };
+        let before = std::mem::replace(&mut self.kept[lock].seen, now);
+        let change = format!("lock {lock} goes from {before:?} to {now:?}");
+        if now != before {
+            let Some(number) = stepped.filter(|&number| self.tries[number].lock == lock) else {
+                return Err(format!("{change} by no step of a try on it"));
+            };
+            match (before.sheet, now.sheet) {
+                (None, Some(_)) if now.turn == before.turn + 1 => self.note_win(number)?,
+                (Some(_), None) if now.turn == before.turn => {}
+                _ => return Err(change),
+            }
+        }
+        let kept = &self.kept[lock];
+        let turn = kept.first_turn + kept.list.len() as u32;
+        if now.turn != turn || turn > Engine::LAST_TURN {
+            return Err(format!("lock {lock} has turn {}, not {turn}", now.turn));
+        }
+        Ok(())
+    }
+
+    /// Puts a try at the end of its lock's list: the last job before it has
+    /// run in full, and its own run alone starts from there.
+    fn note_win(&mut self, number: usize) -> Result<(), Broken> {
+        let attempt = &mut self.tries[number];
+        if attempt.won.is_some() || attempt.answered {
+            return Err(format!("try {number} wins again, or after its end"));
+        }
+        let kept = &mut self.kept[attempt.lock];
+        let start = kept.parts.last().expect("there is always one part");
+        let (parts, ended) = alone::first_parts(&attempt.program, start);
+        attempt.won = Some(ended.yes);
+        kept.list.push(number);
+        kept.parts = parts;
+        Ok(())
+    }
+
+    /// A free lock's words are those after all jobs of its list; a held
+    /// lock's those after all but the last and some first part of the last.
+    fn check_words(&self, lock: usize) -> Result<(), Broken> {
+        let kept = &self.kept[lock];
+        let mut now = Vec::with_capacity(kept.guarded.len());
+        for &word in &kept.guarded {
+            match self.engine.read_word(word as u32) {
+                Ok(read) if read.guard == lock && read.count < 1 << 31 => now.push(read.value),
+                other => return Err(format!("word {word} reads {other:?}")),
+            }
+        }
+        let same = |part: &Vec<u32>| {
+            let mut pairs = kept.guarded.iter().zip(&now);
+            pairs.all(|(&word, &value)| part[word] == value)
+        };
+        let right = match kept.seen.sheet {
+            None => kept.parts.last().is_some_and(same),
+            Some(_) => kept.parts.iter().any(same),
+        };
+        if !right {
+            let (guarded, list) = (&kept.guarded, &kept.list);
+            let held = kept.seen.sheet;
+            return Err(format!(
+                "lock {lock}, held by {held:?}: words {guarded:?} are {now:?} after tries {list:?}"
+            ));
+        }
+        Ok(())
+    }
+
+    /// Closes a history: runs every list once more from setup on, and lets
+    /// any idle worker's try alone free each held lock.
+    pub fn close(&mut self) -> Result<(), Broken> {
+        for lock in 0..self.kept.len() {
+            self.free(lock)?;
+            let kept = &self.kept[lock];
+            let mut words = self.at_setup.clone();
+            for &number in &kept.list {
+                let attempt = &self.tries[number];
+                let ended = alone::run(&attempt.program, &mut words);
+                if attempt.won != Some(ended.yes) {
+                    return Err(format!("try {number} answers otherwise in the list"));
+                }
+            }
+            for &word in &kept.guarded {
+                let value = self.engine.read_word(word as u32).map(|read| read.value);
+                if value != Ok(words[word]) {
+                    return Err(format!("word {word} is {value:?}, not {}", words[word]));
+                }
+            }
+        }
+        Ok(())
+    }
+
+    /// One try of one idle worker, alone, frees a held lock.
+    fn free(&mut self, lock: usize) -> Result<(), Broken> {
+        if self.kept[lock].seen.sheet.is_none() {
+            return Ok(());
+        }
+        let workers = 0..Engine::WORKERS as u32;
+        let mut idle = workers.filter(|&worker| self.engine.standing(worker) == Standing::Idle);
+        let worker = match idle.next() {
+            Some(worker) => worker,
+            None => {
+                self.call(&Call::Drop(7))?;
+                7
+            }
+        };
+        let record = vec![8, 0, 1, 0, 0, 1, 0, 0];
+        let lock = lock as u32;
+        self.call(&Call::Begin {
+            worker,
+            lock,
+            record,
+        })?;
+        let times = Engine::LONGEST_HELP;
+        self.call(&Call::Step { worker, times })?;
+        self.call(&Call::Collect(worker))?;
+        if self.kept[lock as usize].seen.sheet.is_some() {
+            return Err(format!("a whole try alone leaves lock {lock} held"));
+        }
+        Ok(())
+    }
+}
+
+/// Makes one random history of so many calls under the checker.
+pub fn random_history(wrong: Wrong, seed: u64, kind: Kind, calls: u32) -> Result<(), Broken> {
+    let mut generator = Generator::new(seed, kind);
+    let mut checker = Checker::new(Engine::wrong(wrong));
+    for _ in 0..calls {
+        let call = generator.next(checker.engine());
+        checker.call(&call)?;
+    }
+    checker.close()
+}

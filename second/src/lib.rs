@@ -1,0 +1,8 @@
+//! The second program: the job engine once more, written from document 01
+//! alone. It shares no code with the engine it is held against.
+
+pub mod alone;
+pub mod check;
+pub mod engine;
+pub mod generate;
+pub mod script;

@@ -1,0 +1,52 @@
+//! What the tests share: the records of document 01's table and small makers.
+#![allow(dead_code)]
+
+use second::script;
+
+/// Setup S: two locks, words 5 and 9 under lock 0, word 7 under lock 1.
+pub const S: &str = "1D00020002030000010500000009000000070000000000000000000000";
+/// Job A adds 1 to word 0.
+pub const A: &str = "180001000200000001010100050001000300000000010000";
+/// Job B: are words 0 and 1 equal?
+pub const B: &str = "180001000200000002010100070001010000000000010000";
+
+/// A job record of these instructions.
+pub fn job(program: &[[u8; 4]]) -> Vec<u8> {
+    let length = 4 + 4 * program.len();
+    let mut record = vec![length as u8, (length >> 8) as u8, 1, 0];
+    record.extend(program.concat());
+    record
+}
+
+/// A setup record.
+pub fn setup(guards: &[u8], values: &[u32], turns: &[u32]) -> Vec<u8> {
+    let length = 6 + 5 * values.len() + 4 * turns.len();
+    let mut record = vec![length as u8, (length >> 8) as u8, 2, 0];
+    record.extend([turns.len() as u8, values.len() as u8]);
+    record.extend(guards);
+    record.extend(values.iter().flat_map(|value| value.to_le_bytes()));
+    record.extend(turns.iter().flat_map(|turn| turn.to_le_bytes()));
+    record
+}
+
+/// Runs `line => outcome` pairs, one a line, as one script on the blank
+/// state and holds what is written against the outcomes. S, A and B stand
+/// for their records.
+pub fn expect(pairs: &str) {
+    let mut text = String::new();
+    let mut wanted = String::new();
+    let lines = pairs.lines().map(str::trim).filter(|line| !line.is_empty());
+    for (index, pair) in lines.enumerate() {
+        let (call, outcome) = pair.split_once(" => ").expect(pair);
+        let words = call.split(' ').map(|word| match word {
+            "S" => S,
+            "A" => A,
+            "B" => B,
+            other => other,
+        });
+        text += &words.collect::<Vec<_>>().join(" ");
+        text.push('\n');
+        wanted += &format!("{} {outcome}\n", index + 1);
+    }
+    assert_eq!(script::run(text.as_bytes()), wanted, "\n{text}");
+}

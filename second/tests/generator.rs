@@ -1,0 +1,59 @@
+//! The generator makes what it is for.
+
+use second::generate;
+use second::script::{self, parse, Call, LONGEST_SCRIPT};
+use std::collections::BTreeSet;
+
+/// The refusal's number in a line that was written.
+fn refusal(line: &str) -> u32 {
+    let word = line.split(' ').nth(1).expect("a line has a refusal");
+    word.parse()
+        .expect("of a script all of whose lines are of the form")
+}
+
+/// Scripts are of the form, have 200 calls or more and fit; together they
+/// reach every refusal but 10, which no calls reach, and all three answers.
+#[test]
+fn scripts_reach_everything() {
+    let mut refusals = BTreeSet::new();
+    let mut answers = BTreeSet::new();
+    let mut lengths = BTreeSet::new();
+    for seed in 0..1_000 {
+        let text = generate::history(seed);
+        assert!(text.len() + 2_000 <= LONGEST_SCRIPT);
+        let lines: Vec<&[u8]> = script::lines(&text);
+        let calls: Vec<Call> = lines
+            .into_iter()
+            .filter(|line| !script::passed_over(line))
+            .map(|line| parse(line).expect("a line of the form"))
+            .collect();
+        let told = script::run(&text);
+        let told: Vec<&str> = told.lines().collect();
+        assert_eq!(told.len(), calls.len());
+        assert!((200..=400).contains(&calls.len()));
+        for (call, line) in calls.iter().zip(&told) {
+            refusals.insert(refusal(line));
+            match call {
+                Call::Collect(_) => {
+                    answers.insert(line.split(' ').nth(3).unwrap().to_string());
+                }
+                Call::Begin { record, .. } if refusal(line) == 0 => {
+                    lengths.insert(record.len());
+                }
+                _ => {}
+            }
+        }
+    }
+    let but_ten: BTreeSet<u32> = (0..=16).filter(|&number| number != 10).collect();
+    assert_eq!(refusals, but_ten);
+    assert_eq!(answers, ["0", "1", "2", "3"].map(String::from).into());
+    assert_eq!(lengths, (1..=32).map(|n| 4 + 4 * n).collect());
+}
+
+#[test]
+fn the_same_seed_gives_the_same_script() {
+    for seed in [0, 1, 77, u64::MAX] {
+        assert_eq!(generate::history(seed), generate::history(seed));
+    }
+    assert_ne!(generate::history(1), generate::history(2));
+}
