@@ -5,7 +5,7 @@ use mathlib.Core.Bool.{Bool, false}
 use mathlib.Core.List.{List, [], _∷_}
 use native.Mathlib.Omega.{arith}
 use lib.ListN.{length, getD, set, take, drop, length-drop, drop-of-length-le}
-use lib.Seq.{take-all, drop-drop, drop-length, drop-nil}
+use lib.Seq.{drop-drop, drop-length, drop-nil}
 use Rattle.parts.specs.Instr.{asksOf, followsOf, onAsks, onFollows}
 use Rattle.parts.specs.declared.Asks.{Asks}
 use Rattle.parts.specs.declared.Asks.the-variants.{Halt, Go, Touch}
@@ -13,50 +13,30 @@ use Rattle.parts.specs.declared.Follows.{Follows}
 use Rattle.parts.specs.declared.Follows.the-variants.{Done, Swap}
 use Rattle.parts.specs.declared.Instr.{Instr}
 use Rattle.parts.specs.declared.Registers.{Registers}
-use Rattle.records.specs.Job.{instrsOf}
-use Rattle.alone.specs.Alone.{Left, leftOf, instrAt, touchedRegisters, touchedWords, aloneFrom}
-
--- the part of a slice from n on is what is left once n are dropped
-pub part : (n : ℕ) (s : List ℕ) → take (length s - n) (drop n s) ≡ drop n s
-part n s = take-all (length s - n) (drop n s) (simp length-drop (omega arith))
+use Rattle.records.specs.Job.{firstInstr, instrsOf}
+use Rattle.records.proofs.Fours.{instrs-short, instrs-turn}
+use Rattle.records.proofs.Laws.{part-end}
+use Rattle.alone.specs.Alone.{Left, leftOf, touchedRegisters, touchedWords, aloneFrom}
 
 -- the part from the end on, where there are no n to drop
 pub part-none : (n : ℕ) (s : List ℕ) → length s < n → take (length s - length s) (drop (length s) s) ≡ drop n s
 part-none n s h =
     let z : length s ≤ n = omega arith in
-    part (length s) s ∙ drop-length s ∙ sym (drop-of-length-le s z)
+    part-end (length s) s ∙ drop-length s ∙ sym (drop-of-length-le s z)
 
 -- What follows the first instruction is shorter by its four bytes, and a part of that is no longer: the measure falls, and the
 -- count has room.
 pub rest-length : (s : List ℕ) → length (take (length s - 4) (drop 4 s)) ≤ length s - 4
-rest-length s = simp (part, length-drop) (omega arith)
+rest-length s = simp (part-end, length-drop) (omega arith)
 
 pub past-length : (n : ℕ) (s p : List ℕ) → p ≡ drop n (take (length s - 4) (drop 4 s)) → length p ≤ length s - 4
-past-length n s p e = simp (e, part, length-drop) (omega arith)
+past-length n s p e = simp (e, part-end, length-drop) (omega arith)
 
 pub fewer : (s p : List ℕ) (t : ℕ) → length s ≡ t → 4 ≤ length s → length p ≤ length s - 4 → length p < t
 fewer s p t e h q = omega arith
 
 pub room : (s p : List ℕ) (k most : ℕ) → k + length s < most → 4 ≤ length s → length p ≤ length s - 4 → k + 1 + length p < most
 room s p k most e h q = omega arith
-
--- fewer than four bytes are no instruction
-pub instrs-short : (s : List ℕ) → length s < 4 → instrsOf s ≡ []
-unfolding instrsOf
-instrs-short [] h = refl
-instrs-short (op ∷ []) h = refl
-instrs-short (op ∷ a ∷ []) h = refl
-instrs-short (op ∷ a ∷ b ∷ []) h = refl
-instrs-short (op ∷ a ∷ b ∷ c ∷ rest) h = absurd (omega arith)
-
--- four bytes are the first instruction, and the others the rest of the program
-pub instrs-turn : (s : List ℕ) → 4 ≤ length s → instrsOf s ≡ instrAt s ∷ instrsOf (drop 4 s)
-unfolding instrsOf
-instrs-turn [] h = absurd (omega arith)
-instrs-turn (op ∷ []) h = absurd (omega arith)
-instrs-turn (op ∷ a ∷ []) h = absurd (omega arith)
-instrs-turn (op ∷ a ∷ b ∷ []) h = absurd (omega arith)
-instrs-turn (op ∷ a ∷ b ∷ c ∷ rest) h = refl
 
 -- what follows the first instruction
 instrs-rest : (n : ℕ) (s : List ℕ) → drop n (instrsOf (drop 4 s)) ≡ drop (suc n) (instrsOf s)
@@ -104,10 +84,10 @@ module _ (s : List ℕ) (r : Registers) (words : List ℕ) (k : ℕ) (h : 4 ≤ 
   -- one turn, by what the first instruction asks
   pub alone-turn :
       aloneFrom zero (instrsOf s) r words k ≡
-      onAsks (asksOf (instrAt s) r) (λ said. leftOf said (k + 1) words)
+      onAsks (asksOf (firstInstr s) r) (λ said. leftOf said (k + 1) words)
       (λ next n. aloneFrom n (instrsOf (drop 4 s)) next words (k + 1))
       (λ w.
-      onFollows (followsOf (instrAt s) r (getD words w 0)) (λ next. aloneFrom zero (instrsOf (drop 4 s)) next words (k + 1))
+      onFollows (followsOf (firstInstr s) r (getD words w 0)) (λ next. aloneFrom zero (instrsOf (drop 4 s)) next words (k + 1))
       (λ new. aloneFrom zero (instrsOf (drop 4 s)) r (set words w new) (k + 1)))
   unfolding aloneFrom
   alone-turn = simp (instrs-turn s h)
@@ -115,7 +95,7 @@ module _ (s : List ℕ) (r : Registers) (words : List ℕ) (k : ℕ) (h : 4 ≤ 
   -- a halt
   pub alone-halt :
       (i : Instr) (asks : Asks) (said : Bool) →
-      i ≡ instrAt s →
+      i ≡ firstInstr s →
       asks ≡ asksOf i r →
       asks ≡ Halt said →
       leftOf said (k + 1) words ≡ aloneFrom zero (instrsOf s) r words k
@@ -124,19 +104,19 @@ module _ (s : List ℕ) (r : Registers) (words : List ℕ) (k : ℕ) (h : 4 ≤ 
   -- set, add, sub and skip: on from the instruction reached
   pub alone-go :
       (i : Instr) (asks : Asks) (next : Registers) (n : ℕ) (rest : List ℕ) (left : Left) →
-      i ≡ instrAt s →
+      i ≡ firstInstr s →
       asks ≡ asksOf i r →
       asks ≡ Go next n →
       rest ≡ drop (4 * n) (take (length s - 4) (drop 4 s)) →
       left ≡ aloneFrom zero (instrsOf rest) next words (k + 1) →
       left ≡ aloneFrom zero (instrsOf s) r words k
   alone-go i asks next n rest left e q f p g =
-      g ∙ sym (simp (alone-turn, ← e, ← q, f, p, part, instrs-drop) (alone-drop n (instrsOf (drop 4 s)) next words (k + 1)))
+      g ∙ sym (simp (alone-turn, ← e, ← q, f, p, part-end, instrs-drop) (alone-drop n (instrsOf (drop 4 s)) next words (k + 1)))
 
   -- load, store and cam: on with the next instruction
   pub alone-touch :
       (i : Instr) (asks : Asks) (w : ℕ) (next : Registers) (after : List ℕ) (left : Left) →
-      i ≡ instrAt s →
+      i ≡ firstInstr s →
       asks ≡ asksOf i r →
       asks ≡ Touch w →
       next ≡ touchedRegisters i r w words →
@@ -144,10 +124,10 @@ module _ (s : List ℕ) (r : Registers) (words : List ℕ) (k : ℕ) (h : 4 ≤ 
       left ≡ aloneFrom zero (instrsOf (take (length s - 4) (drop 4 s))) next after (k + 1) →
       left ≡ aloneFrom zero (instrsOf s) r words k
   alone-touch i asks w next after left e q f n a g =
-      let t : asksOf (instrAt s) r ≡ Touch w = simp (← e) (cc) in
+      let t : asksOf (firstInstr s) r ≡ Touch w = simp (← e) (cc) in
       let on : Registers → List ℕ → Left = λ next words. aloneFrom zero (instrsOf (drop 4 s)) next words (k + 1) in
-      g ∙ simp (part, n, a, e)
-      (sym (simp (alone-turn, t) (touched-on (followsOf (instrAt s) r (getD words w 0)) r w words on)))
+      g ∙ simp (part-end, n, a, e)
+      (sym (simp (alone-turn, t) (touched-on (followsOf (firstInstr s) r (getD words w 0)) r w words on)))
 
 -- what follows from a word's value v, which was read, by its case
 module _ {A : Type 0} (i : Instr) (r : Registers) (v value : ℕ) (f : Follows) (x : A) (d : Registers → A) (s : ℕ → A) where

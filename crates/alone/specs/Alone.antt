@@ -18,10 +18,6 @@ pub record Left : Type 0 where
 abbrev pub leftOf : Bool → ℕ → List ℕ → Left
 leftOf said executed words = record { yes = said; executed = executed; words = words }
 
--- the instruction of a program's first four bytes
-abbrev pub instrAt : List ℕ → Instr
-instrAt s = record { op = getD s 0 0; a = getD s 1 0; b = getD s 2 0; c = getD s 3 0 }
-
 -- what a load, a store or a cam on word w leaves: the registers, and the words' values
 abbrev pub touchedRegisters : Instr → Registers → ℕ → List ℕ → Registers
 touchedRegisters i r w words = onFollows (followsOf i r (getD words w 0)) (λ next. next) (λ new. r)

@@ -5,10 +5,10 @@ use parts::Follows;
 use parts::Instr;
 use parts::Registers;
 ghost use mathlib.Core.Path.{_≡_};
-ghost use Prim.Native.Nat.{zero, _+_, _*_, _^_, _≤_, _<_};
+ghost use Prim.Native.Nat.{zero, _+_, _*_, _^_, _<_};
 ghost use lib.ListN.{length, getD, set, drop};
 ghost use Rattle.records.specs.Job.{instrsOf};
-ghost use Rattle.alone.specs.Alone.{instrAt, touchedRegisters, touchedWords, leftOf, aloneFrom, aloneOf};
+ghost use Rattle.alone.specs.Alone.{touchedRegisters, touchedWords, leftOf, aloneFrom, aloneOf};
 
 // What a job alone answers, and how many instructions it executed: the halt counts, those passed over don't.
 pub struct Ran {
@@ -53,19 +53,6 @@ fn touch(i: Instr, r: Registers, w: u8, words: &mut [u32]) -> Registers
     }
 }
 
-// The first instruction of a program's bytes.
-fn first(code: &[u8]) -> Instr
-    requires { ⌜ 4 ≤ length (now code) ⌝ }
-    ensures { λ r. ⌜ r ≡ instrAt (now (code .entry)) ⌝ }
-{
-    Instr {
-        op: code[0],
-        a: code[1],
-        b: code[2],
-        c: code[3],
-    }
-}
-
 // The program's bytes once n instructions more are passed over: none where it has no more than n.
 fn past(code: &[u8], n: u8) -> &[u8]
     ensures { λ r. ⌜ now r ≡ drop (4 * n) (now (code .entry)) ⌝ }
@@ -92,7 +79,7 @@ fn go_on(code: &[u8], r: Registers, words: &mut [u32], k: usize) -> Ran
             executed: k,
         };
     }
-    let i = first(code);
+    let i = records::job::first_instr(code);
     let rest = &code[4..];
     let asks = i.asks(r);
     match asks {

@@ -18,9 +18,7 @@ use Rattle.engine.specs.Calls.{outcomeOf, stepOf, collectOf}
 use Rattle.engine.specs.State.{workerAt, withWorker}
 use Rattle.engine.specs.Step.{steppedOf}
 use Rattle.engine.specs.declared.CollectTold.{CollectTold}
-use Rattle.engine.specs.declared.Collected.{Collected}
 use Rattle.engine.specs.declared.Engine.{Engine}
-use Rattle.engine.specs.declared.Outcome.{Outcome}
 use Rattle.parts.specs.declared.Refusal.{Refusal}
 use Rattle.parts.specs.declared.Told.{Told}
 use Rattle.parts.specs.declared.Told.the-variants.{Accepted, Refused}

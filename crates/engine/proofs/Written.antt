@@ -1,7 +1,7 @@
 -- What show and park write: a record is laid part by part. And what is known of the buffer where they were accepted.
 use Prim.Native.Nat.{ℕ, _+_, _*_, _≤_, _<_}
 use mathlib.Core.Path.{_≡_, _∙_, sym, ap}
-use mathlib.Core.Bool.{Bool, true, false}
+use mathlib.Core.Bool.{true, false}
 use mathlib.Core.List.{List, [], _∷_, _++_, map}
 use native.Mathlib.Omega.{arith}
 use borrow.Author.Tests.{leb-false, ltb-false}

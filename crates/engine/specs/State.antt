@@ -2,7 +2,7 @@
 -- state that the calls gave none ever changes a number.
 use Prim.Native.Nat.{ℕ, _+_, _*_, _%_}
 use mathlib.Core.Bool.{Bool, false}
-use mathlib.Core.List.{List, map}
+use mathlib.Core.List.{List}
 use lib.ListN.{getD, set, take, drop, replicate}
 use Rattle.arrays.specs.Fresh.{guardsOf, valuesOf, turnsOf}
 use Rattle.parts.specs.Numbers.{workers, mostLocks, mostWords, sheets, instructions, entries}

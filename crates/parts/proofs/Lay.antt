@@ -1,12 +1,12 @@
 -- The laws of `lay`: one turn of a loop that lays, its end, four elements at once, one list after another, and what stands
 -- where afterwards.
-use Prim.Native.Nat.{ℕ, suc, _+_, _≤_, _<_}
+use Prim.Native.Nat.{ℕ, suc, _+_, _≤_}
 use mathlib.Core.Path.{_≡_, refl, _∙_, sym, ap}
 use mathlib.Core.List.{List, [], _∷_, _++_, append-nil}
 use native.Mathlib.Numerals.{add-one}
 use native.Mathlib.Omega.{arith}
-use lib.ListN.{length, getD, take, drop, set, drop-of-length-le}
-use lib.Seq.{drop-cons, sets, length-sets, sets-eq}
+use lib.ListN.{length, take, drop, set, drop-of-length-le}
+use lib.Seq.{sets, length-sets, sets-eq}
 use Rattle.parts.specs.Lay.{lay}
 
 lay-sets : {A : Type 0} (at : ℕ) (xs l : List A) → lay at xs l ≡ sets l at xs

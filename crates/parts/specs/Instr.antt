@@ -1,6 +1,6 @@
 -- The eight meanings of an instruction, once: a job alone and the engine's steps both go by them.
 use Prim.Native.Nat.{ℕ, _+_, _-_, _*_, _%_, _^_}
-use mathlib.Core.Bool.{Bool, true, false}
+use mathlib.Core.Bool.{Bool, false}
 use lib.Dec.{eqb}
 use Rattle.parts.specs.Pick.{pick}
 use Rattle.parts.specs.Parts.{registerOf, withRegister}

@@ -1,6 +1,6 @@
 -- What is done to one small value of the engine.
 use Prim.Native.Nat.{ℕ, _+_, _%_, _^_}
-use mathlib.Core.Bool.{Bool, true, false}
+use mathlib.Core.Bool.{Bool, false}
 use lib.Dec.{eqb}
 use Rattle.parts.specs.Numbers.{lastTurn}
 use Rattle.parts.specs.Pick.{pick, onHolder, onSlot}

@@ -1,30 +1,20 @@
 -- What is known of the pieces that an accepted begin or setup takes out of its record.
-use Prim.Native.Nat.{ℕ, zero, suc, _+_, _-_, _*_, _/_, _%_, _≤_, _<_}
+use Prim.Native.Nat.{ℕ, zero, suc, _+_, _-_, _*_, _≤_}
 use native.Mathlib.Omega.{arith}
 use mathlib.Core.Path.{_≡_}
-use mathlib.Core.Bool.{false}
 use mathlib.Core.List.{List, [], _∷_, map}
 use mathlib.Core.Logic.{⊎-elim}
-use lib.Dec.{leb, ltb}
-use lib.ListN.{length, drop, length-drop, List·getD-eq-default}
-use borrow.Author.Tests.{leb-false, ltb-false}
-use Rattle.arrays.specs.Fresh.{wordsFrom, freeAt, guardsOf}
-use Rattle.parts.specs.Numbers.{workers, sheets, instructions, lastTurn}
-use Rattle.parts.specs.Parts.{instr0, lock0, word0, wornOf}
-use Rattle.parts.specs.Pick.{_or_, _isnt_}
-use Rattle.parts.specs.Told.{refuseIf}
-use Rattle.parts.specs.declared.Refusal.the-variants.{NoWorker, NoLock, Kind, Length, LastTurn, NoSheet}
+use lib.ListN.{length, drop, List·getD-eq-default}
+use Rattle.arrays.specs.Fresh.{wordsFrom, freeAt}
+use Rattle.parts.specs.Numbers.{lastTurn}
+use Rattle.parts.specs.Parts.{instr0, lock0, word0}
 use Rattle.parts.specs.declared.Told.the-variants.{Accepted}
-use Rattle.parts.proofs.Order.{first-all, both-pass, row-passes, neither, not-isnt}
-use Rattle.records.specs.Bytes.{AllBytes, u32sOf, lengthTold, kindField}
-use Rattle.records.specs.Job.{jobKind, instrsOf, jobOf, noJobLength, codeTold, jobTold}
+use Rattle.records.specs.Bytes.{AllBytes, u32sOf}
+use Rattle.records.specs.Job.{instrsOf, jobOf}
 use Rattle.records.specs.Setup.{locksField, wordsField, guardsField, valuesField, turnsField, setupTold}
-use Rattle.records.proofs.Fours.{instrs-length}
 use Rattle.records.proofs.One.{setup-sized}
 use Rattle.records.proofs.Takes.{guards-below, turns-below}
 use Rattle.steps.specs.Worker as steps
-use Rattle.engine.specs.State.{lockCount, wordsOf, workerAt, lockAt, freeSheet}
-use Rattle.engine.specs.declared.Engine.{Engine}
 use Rattle.promises.specs.Good.{Fits, Byte, GoodLock, GoodWord, GoodInstr}
 use Rattle.promises.proofs.Frame.{All, take-all, drop-all, below-or-not}
 

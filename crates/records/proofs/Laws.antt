@@ -13,10 +13,9 @@ use borrow.Author.Tests.{ltb-false, eqb-true}
 use Rattle.parts.specs.Numbers.{lastTurn}
 use Rattle.parts.specs.Pick.{pick, _or_}
 use Rattle.parts.specs.Told.{_then_, refuseIf}
-use Rattle.parts.specs.declared.Refusal.{Refusal}
 use Rattle.parts.specs.declared.Refusal.the-variants.{Length, Range}
 use Rattle.parts.specs.declared.Told.{Told}
-use Rattle.parts.specs.declared.Told.the-variants.{Accepted, Refused}
+use Rattle.parts.specs.declared.Told.the-variants.{Accepted}
 use Rattle.records.specs.Bytes.{u32Of, u32sOf, lengthField, lengthTold}
 use Rattle.records.specs.Job.{instrsOf, firstTold, codeTold}
 use Rattle.records.specs.Setup.{guardsTold, turnsTold}

@@ -5,7 +5,6 @@ use crate::Point;
 use crate::Run;
 use crate::State;
 use crate::View;
-use crate::Worker;
 use parts::Answer;
 use parts::Asks;
 use parts::Follows;

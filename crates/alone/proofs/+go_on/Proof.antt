@@ -9,7 +9,7 @@ use Rattle.alone.proofs.Laws.{falling, turns}
 use Rattle.alone.proofs.go_on.Reads as go-on
 use Rattle.alone.proofs.go_on.Kinds as go-on-kinds
 use Rattle.alone.proofs.+go_on.Lts-go_on as go-on-lts
-use Rattle.alone.proofs.first.Reads as first-reads
+use Rattle.records.proofs.job.first_instr.Reads as first-reads
 use Rattle.alone.proofs.past.Reads as past-reads
 use Rattle.alone.proofs.touch.Reads as touch-reads
 use Rattle.parts.proofs.Instr.asks.Reads as asks-reads

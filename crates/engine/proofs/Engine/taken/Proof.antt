@@ -1,7 +1,6 @@
 -- By what the callees ensure; an accepted begin found all that `begun` asks for.
 use borrow.Author.Needs.{needs}
 use native.Mathlib.Omega.{arith}
-use mathlib.Core.Path.{sym}
 use Rattle.engine.proofs.Begins.{job-size}
 use Rattle.engine.proofs.Engine.taken.Statement.{statement}
 use Rattle.engine.proofs.Engine.taken.Tie as tie

@@ -1,6 +1,5 @@
 -- Each return is what the definition picks on the way that led there.
 use borrow.Author.Needs.{needs}
-use Rattle.parts.proofs.Laws.{laws}
 use Rattle.parts.proofs.Registers.add.Statement.{statement}
 use Rattle.parts.proofs.Registers.add.Tie as tie
 
