@@ -1,0 +1,4 @@
+pub mod Laws
+pub mod Written
+pub mod Replies
+pub mod Walks

@@ -1,0 +1,18 @@
+-- The first N bytes, at most 512, are lent, and the others kept.
+use borrow.Author.Needs.{needs}
+use Rattle.session.proofs.Laws.{first-count}
+use Rattle.session.proofs.Replies.{shown-by}
+use Rattle.session.proofs.obey.on_show.Statement.{statement}
+use Rattle.session.proofs.obey.on_show.Tie as tie
+
+pub on-show-spec : {M : Type 1} → statement M
+on-show-spec =
+    tie.close
+    (tie.spec
+    (λ c κs. search needs)
+    (λ c κs. search needs)
+    (λ c. search needs)
+    (λ c. first-count _ _ (search needs) (search needs))
+    (λ c κs. search needs)
+    (λ c κs. search needs)
+    (λ c. search shown-by))
