@@ -14,3 +14,4 @@ pub mod Park
 pub mod Bites
 pub mod There
 pub mod Spare
+pub mod Exhibit
