@@ -15,7 +15,7 @@ use Rattle.parts.specs.declared.Registers.{Registers}
 use Rattle.alone.specs.Alone.{Left, aloneFrom, aloneOf}
 
 -- what holds in each case of what an instruction asks, and of what follows, holds of every one
-asks-all :
+pub asks-all :
     {A : Type 0} (P : A → Type 0) (q : Asks) {h : Bool → A} {g : Registers → ℕ → A} {t : ℕ → A} →
     ((said : Bool) → P (h said)) →
     ((next : Registers) (n : ℕ) → P (g next n)) →
@@ -25,7 +25,7 @@ asks-all P (Halt said) ph pg pt = ph said
 asks-all P (Go next n) ph pg pt = pg next n
 asks-all P (Touch w) ph pg pt = pt w
 
-follows-all :
+pub follows-all :
     {A : Type 0} (P : A → Type 0) (f : Follows) {d : Registers → A} {s : ℕ → A} →
     ((next : Registers) → P (d next)) →
     ((new : ℕ) → P (s new)) →

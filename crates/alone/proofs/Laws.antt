@@ -72,7 +72,7 @@ unfolding aloneFrom
 alone-end s r words k h = simp (instrs-short s h)
 
 -- a job that touched its word goes on with what that left
-touched-on :
+pub touched-on :
     (f : Follows) (r : Registers) (w : ℕ) (words : List ℕ) (on : Registers → List ℕ → Left) →
     onFollows f (λ next. on next words) (λ new. on r (set words w new)) ≡
     on (onFollows f (λ next. next) (λ new. r)) (onFollows f (λ next. words) (λ new. set words w new))

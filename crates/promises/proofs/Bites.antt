@@ -17,7 +17,7 @@ use Rattle.promises.specs.Good.{GoodPoint, Good}
 use Rattle.promises.proofs.Keep.{point-good}
 
 -- of worker w, under way at p
-pub record PointUncut (e : Engine) (w : ℕ) (p : Point) : Type 0 where
+pub record PointWhole (e : Engine) (w : ℕ) (p : Point) : Type 0 where
   -- its lock is one of the L locks, and the lock of its step; so with the sheet of its spot
   pub below : workerAt e w .lock < e .locks
   pub lock : placesOf e w p .lock ≡ workerAt e w .lock
@@ -26,12 +26,12 @@ pub record PointUncut (e : Engine) (w : ℕ) (p : Point) : Type 0 where
   pub turn : (seen : ℕ) → p ≡ Grab seen → next32 seen ≡ seen + 1
 
 -- L and W, and a sheet's number of instructions, are what the state has; every word is guarded by one of the L locks
-pub record Uncut (e : Engine) : Type 0 where
+pub record Whole (e : Engine) : Type 0 where
   pub locks : lockCount e ≡ e .locks
   pub words : wordCount e ≡ e .words
   pub guard : (i : ℕ) → i < e .words → wordAt e i .guard < e .locks
   pub program : (s : ℕ) → programLength e s ≡ getD (e .sheet) s sheet0 .length
-  pub point : (w : ℕ) (p : Point) → workerAt e w .state ≡ UnderWay p → PointUncut e w p
+  pub point : (w : ℕ) (p : Point) → workerAt e w .state ≡ UnderWay p → PointWhole e w p
 
 -- the sheet of a point's spot is a sheet
 spot-sheet : (p : Point) (own : ℕ) → own < sheets → GoodPoint p → spotOf p own .sheet < sheets
@@ -49,7 +49,7 @@ spot-sheet (Release r said) own h g = g .sheet
 grab-turn : (p : Point) (seen : ℕ) → GoodPoint p → p ≡ Grab seen → next32 seen ≡ seen + 1
 grab-turn p seen g q = let h : GoodPoint (Grab seen) = subst GoodPoint q g in omega arith
 
-pub bites-not : (e : Engine) → Good e → Uncut e
+pub bites-not : (e : Engine) → Good e → Whole e
 unfolding placesOf
 bites-not e g =
     let l = g .numbers .locks in
@@ -62,7 +62,7 @@ bites-not e g =
       point = point;
     }
   where
-    point : (w : ℕ) (p : Point) → workerAt e w .state ≡ UnderWay p → PointUncut e w p
+    point : (w : ℕ) (p : Point) → workerAt e w .state ≡ UnderWay p → PointWhole e w p
     point w p q =
         let k = g .worker w in
         let at = point-good (e .locks) (workerAt e w) p k q in

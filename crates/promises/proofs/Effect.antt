@@ -81,7 +81,7 @@ follows-all P (follows.Done r) d s q a b = a r q
 follows-all P (follows.Swap x) d s q a b = b x q
 
 -- registers
-register-fits : (r : Registers) (i : ℕ) → GoodRegisters r → Fits (registerOf r i)
+pub register-fits : (r : Registers) (i : ℕ) → GoodRegisters r → Fits (registerOf r i)
 unfolding registerOf
 register-fits r i g =
     pick-all Fits (eqb i 0) _ _ (g .r0)

@@ -12,9 +12,9 @@ use Rattle.parts.specs.Pick.{pick}
 use Rattle.parts.specs.declared.Told.the-variants.{Accepted}
 use Rattle.records.specs.Bytes.{AllBytes, u32sBytes}
 use Rattle.engine.specs.declared.WriteTold.{WriteTold}
-use Rattle.promises.specs.History.{Step, after, afterAll}
-use Rattle.promises.specs.Records.{AllRecords, Past, stateAfter, UsedAlong}
-use Rattle.promises.specs.Table.{setupS, jobA, jobSkipping, fresh}
+use Rattle.promises.specs.History.{Step, after, afterAll, AllRecords, Past, stateAfter}
+use Rattle.promises.specs.Records.{UsedAlong}
+use Rattle.promises.specs.Table.{setupS, jobA, jobSkipping, jobB, fresh}
 use Rattle.arrays.specs.Fresh.{wordsFrom}
 use Rattle.parts.specs.Instr.{asksOf, followsOf, wordOf}
 use Rattle.parts.specs.Lay.{lay}
@@ -52,9 +52,13 @@ pub setup-bytes : AllBytes setupS
 unfolding allBelow setupS
 setup-bytes = all-bytes setupS refl
 
-job-bytes : AllBytes jobA
+pub job-bytes : AllBytes jobA
 unfolding allBelow jobA
 job-bytes = all-bytes jobA refl
+
+pub job-b-bytes : AllBytes jobB
+unfolding allBelow jobSkipping
+job-b-bytes = all-bytes jobB refl
 
 -- S, with no call yet
 unfoldable pub past : Past

@@ -16,13 +16,14 @@ use Rattle.parts.specs.declared.Told.{Told}
 use Rattle.parts.specs.declared.Told.the-variants.{Accepted, Refused}
 use Rattle.records.specs.Job.{jobOf, jobRecord}
 use Rattle.sheets.proofs.Lowest.{takes-lowest}
-use Rattle.steps.specs.declared.Point.{Point}
+use Rattle.steps.specs.declared.View.{View}
 use Rattle.engine.specs.State.{sheet0, inUse, freeSheet, baseOf, workerAt, programLength, programOf, sheetRecord}
 use Rattle.engine.specs.Step.{placesOf, putAt, steppedOf}
 use Rattle.engine.specs.Calls.{Begins, outcomeOf, begunOf, beginTold, beginOf, stepTold, onwardOf, stepOf, collectTold, collectOf, dropTold, dropOf}
 use Rattle.engine.specs.declared.Collected.{Collected}
 use Rattle.engine.specs.declared.Engine.{Engine}
 use Rattle.engine.specs.declared.Outcome.{Outcome}
+use Rattle.engine.specs.declared.Places.{Places}
 use Rattle.engine.specs.declared.Sheet.{Sheet}
 use Rattle.promises.proofs.Frame.{state-all, told-all, below-or-not}
 use Rattle.promises.proofs.Laid.{part-lay, set-same}
@@ -47,17 +48,16 @@ apart : (a b : ℕ) → (a ≡ b → ⊥) → (a < b) ⊎ (b < a)
 apart a b n = ⊎-elim inl (λ h. ⊎-elim (λ q. absurd (n (sym q))) inr (eq-or-lt-of-le h)) (below-or-not a b)
 
 -- another sheet's part of an array ends before the sheet's, or begins after it
-beside : (s t m n : ℕ) → (s ≡ t → ⊥) → m ≤ instructions → n ≤ instructions → (baseOf s + n ≤ baseOf t) ⊎ (baseOf t + m ≤ baseOf s)
+pub beside : (s t m n : ℕ) → (s ≡ t → ⊥) → m ≤ instructions → n ≤ instructions → (baseOf s + n ≤ baseOf t) ⊎ (baseOf t + m ≤ baseOf s)
 beside s t m n d h k = ⊎-elim (λ q. inl (omega arith)) (λ q. inr (omega arith)) (apart s t d)
 
--- a begin copies its job to another sheet
-begun-program :
-    (e : Engine) (w l : ℕ) (rec : List ℕ) (s : ℕ) → inUse e s ≡ true → Begins e w l rec →
+-- a begin copies its job to the free sheet, and no other
+pub begun-program :
+    (e : Engine) (w l : ℕ) (rec : List ℕ) (s : ℕ) → (s ≡ freeSheet e → ⊥) → Begins e w l rec →
     programOf (begunOf e w l rec (freeSheet e)) s ≡ programOf e s
 unfolding begunOf
-begun-program e w l rec s u b =
+begun-program e w l rec s d b =
     let t = freeSheet e in
-    let d = other-sheet e s u (b .sheet) in
     let blanks = replicate instructions instr0 in
     let n = programLength e s in
     let size = length-replicate instructions instr0 in
@@ -70,11 +70,11 @@ begun-program e w l rec s u b =
     part-lay (baseOf s) n (baseOf t) blanks (e .program) (beside s t (length blanks) n d (omega arith) (omega arith))
 
 -- a step changes no instruction, and of a sheet only the done mark
-stepped-program : (e : Engine) (w : ℕ) (p : Point) (s : ℕ) → programOf (steppedOf e w p) s ≡ programOf e s
+pub put-program : (e : Engine) (at : Places) (v : View) (s : ℕ) → programOf (putAt e at v) s ≡ programOf e s
 unfolding putAt
-stepped-program e w p s =
+put-program e at v s =
     ap (λ (n : ℕ). take (n % (instructions + 1)) (drop (baseOf s) (e .program)))
-    (set-same (λ (x : Sheet). x .length) (e .sheet) (placesOf e w p .sheet) _ sheet0 refl s)
+    (set-same (λ (x : Sheet). x .length) (e .sheet) (at .sheet) _ sheet0 refl s)
 
 -- of an outcome: the state as it came has it, and the next state where the call was accepted
 outcome-kept :
@@ -90,13 +90,16 @@ programs-kept e s u =
     record {
       begin =
           λ w l rec.
-          outcome-kept (λ e. programOf e s) e (beginTold e w l rec) _ (λ h. begun-program e w l rec s u (begins e w l rec h));
+          outcome-kept (λ e. programOf e s) e (beginTold e w l rec) _
+          (λ h.
+          let b = begins e w l rec h in
+          begun-program e w l rec s (other-sheet e s u (b .sheet)) b);
       step =
           λ w.
           outcome-kept (λ e. programOf e s) e (stepTold e w) (onwardOf e w)
           (λ t.
           state-all (λ (next : Engine). programOf next s ≡ programOf e s) (workerAt e w .state) e (λ p. steppedOf e w p) (λ x. e)
-          (λ q. refl) (λ p q. stepped-program e w p s) (λ x q. refl));
+          (λ q. refl) (λ p q. put-program e (placesOf e w p) _ s) (λ x q. refl));
       collect =
           λ w.
           told-all (λ (o : Collected). programOf (o .engine) s ≡ programOf e s) (collectTold e w) _ _ (λ t. refl) (λ r q. refl);

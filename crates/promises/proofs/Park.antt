@@ -72,7 +72,7 @@ free-from [] k = refl
 free-from (t ∷ turns) zero = refl
 free-from (t ∷ turns) (suc k) = free-from turns k
 
-from-length : (guards values : List ℕ) → length values ≡ length guards → length (wordsFrom guards values) ≡ length guards
+pub from-length : (guards values : List ℕ) → length values ≡ length guards → length (wordsFrom guards values) ≡ length guards
 from-length guards values h =
     sym (length-map (wordsFrom guards values) (λ w. w .guard)) ∙ ap length (guards-from guards values h)
 
@@ -118,13 +118,13 @@ fresh-locks rec turns t l most =
     ap (λ (x : List ℕ). take (locksField rec % (mostLocks + 1)) (lay 0 (map freeAt x) all)) t ∙
     ap (λ (m : ℕ). take m (lay 0 made all)) n ∙ lay-there 0 made all (omega (arith, length-replicate mostLocks lock0))
 
-fresh-counts : (rec : List ℕ) → All (λ w. w .count ≡ 0) (freshOf rec .word) word0
+pub fresh-counts : (rec : List ℕ) → All (λ w. w .count ≡ 0) (freshOf rec .word) word0
 unfolding freshOf
 fresh-counts rec =
     lay-all (λ w. w .count ≡ 0) 0 _ _ word0 (counts-from (guardsField rec) (valuesField rec))
     (replicate-all (λ w. w .count ≡ 0) mostWords word0 refl)
 
-fresh-free : (rec : List ℕ) → All (λ l. l .holder ≡ Free) (freshOf rec .lock) lock0
+pub fresh-free : (rec : List ℕ) → All (λ l. l .holder ≡ Free) (freshOf rec .lock) lock0
 unfolding freshOf
 fresh-free rec =
     lay-all (λ l. l .holder ≡ Free) 0 _ _ lock0 (free-from (turnsField rec))

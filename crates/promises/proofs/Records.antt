@@ -71,7 +71,7 @@ module _ (e : Engine) (s : ℕ) (g : Good e) (h : s < sheets) where
     shows-bytes = simp show-accepted
 
 -- a worker that begins was idle, and is then to look at its lock with its own sheet
-looks : (k : Worker) (l s : ℕ) → steps.beginTold k ≡ Accepted → beganOf k l s ≡ lookingOf l s
+pub looks : (k : Worker) (l s : ℕ) → steps.beginTold k ≡ Accepted → beganOf k l s ≡ lookingOf l s
 unfolding steps.beginTold beganOf
 looks k l s h = go (k .state) h
   where
@@ -113,7 +113,7 @@ module _ (e : Engine) (w l : ℕ) (rec : List ℕ) (g : Good e) (t : Begins e w 
         held = ap (λ (x : Worker). workerKeeps s x) there ∙ keeps;
       })
 
-  begun-job : programOf (begunOf e w l rec (freeSheet e)) (freeSheet e) ≡ jobOf rec
+  pub begun-job : programOf (begunOf e w l rec (freeSheet e)) (freeSheet e) ≡ jobOf rec
   unfolding begunOf
   begun-job =
       let s = freeSheet e in

@@ -26,8 +26,7 @@ use Rattle.engine.specs.declared.Collected.{Collected}
 use Rattle.engine.specs.declared.Engine.{Engine}
 use Rattle.engine.specs.declared.Outcome.{Outcome}
 use Rattle.promises.specs.Good.{Good}
-use Rattle.promises.specs.History.{Call, Begin, Step, Collect, Drop, ReadWord, ReadLock, Show, Park, after, afterAll}
-use Rattle.promises.specs.Records.{AllRecords, Past, stateAfter}
+use Rattle.promises.specs.History.{Call, Begin, Step, Collect, Drop, ReadWord, ReadLock, Show, Park, after, afterAll, AllRecords, Past, stateAfter}
 use Rattle.promises.proofs.Bites.{bites-not}
 use Rattle.promises.proofs.Frame.{state-all, told-all}
 use Rattle.promises.proofs.Keep.{good-setup, good-begin, good-step, good-collect, good-drop}
@@ -35,7 +34,7 @@ use Rattle.promises.proofs.Laid.{lay-first}
 use Rattle.promises.proofs.There.{good-past}
 
 -- past L the array is as it was in the blank state
-abbrev Spare : Engine → Type 0
+abbrev pub Spare : Engine → Type 0
 Spare e = drop (e .locks) (e .lock) ≡ replicate (mostLocks - e .locks) lock0
 
 drop-replicate : {A : Type 0} (n m : ℕ) (x : A) → drop n (replicate m x) ≡ replicate (m - n) x
@@ -100,13 +99,13 @@ spare-setup : (rec : List ℕ) → Spare (setupOf rec .engine)
 unfolding setupOf blankOf
 spare-setup rec = outcome-spare blankOf (setupTold rec) (freshOf rec) refl (fresh-spare rec)
 
-spare-past : (p : Past) → Spare (stateAfter p)
+pub spare-past : (p : Past) → Spare (stateAfter p)
 spare-past p =
     spare-after (setupOf (p .setup) .engine) (p .calls) (good-setup (p .setup) (p .setupBytes)) (spare-setup (p .setup))
     (p .callsBytes)
 
 -- some element of two lists, and of a list of one value that hasn't it
-any-append : {A : Type 0} (has : A → Bool) (xs ys : List A) → anyOf has (xs ++ ys) ≡ (anyOf has xs or anyOf has ys)
+pub any-append : {A : Type 0} (has : A → Bool) (xs ys : List A) → anyOf has (xs ++ ys) ≡ (anyOf has xs or anyOf has ys)
 unfolding anyOf
 any-append has [] ys = refl
 any-append has (x ∷ xs) ys = ap (λ (b : Bool). has x or b) (any-append has xs ys) ∙ assoc (has x)
@@ -120,7 +119,7 @@ unfolding anyOf
 any-none has x zero h = refl
 any-none has x (suc n) h = simp (h, any-none has x n h)
 
-or-false : (b : Bool) → (b or false) ≡ b
+pub or-false : (b : Bool) → (b or false) ≡ b
 or-false true = refl
 or-false false = refl
 

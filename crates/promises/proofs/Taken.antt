@@ -14,7 +14,6 @@ use Rattle.records.specs.Job.{instrsOf, jobOf}
 use Rattle.records.specs.Setup.{locksField, wordsField, guardsField, valuesField, turnsField, setupTold}
 use Rattle.records.proofs.One.{setup-sized}
 use Rattle.records.proofs.Takes.{guards-below, turns-below}
-use Rattle.steps.specs.Worker as steps
 use Rattle.promises.specs.Good.{Fits, Byte, GoodLock, GoodWord, GoodInstr}
 use Rattle.promises.proofs.Frame.{All, take-all, drop-all, below-or-not}
 

@@ -8,15 +8,15 @@ use Rattle.engine.specs.State.{inUse, freeSheet, sheetRecord}
 use Rattle.engine.specs.Calls.{setupOf, beginOf}
 use Rattle.engine.specs.declared.Engine.{Engine}
 use Rattle.promises.specs.Good.{Good}
-use Rattle.promises.specs.History.{Call, Begin, Step, Collect, Drop, ReadWord, ReadLock, Show, Park, after, afterAll}
-use Rattle.promises.specs.Records.{AllRecords, Past, stateAfter, UsedAlong, Writes, ThereAndBack}
+use Rattle.promises.specs.History.{Call, Begin, Step, Collect, Drop, ReadWord, ReadLock, Show, Park, after, afterAll, AllRecords, Past, stateAfter}
+use Rattle.promises.specs.Records.{UsedAlong, Writes, ThereAndBack}
 use Rattle.promises.proofs.Keep.{good-setup, good-begin, good-step, good-collect, good-drop}
 use Rattle.promises.proofs.Kept.{kept}
 use Rattle.promises.proofs.Laid.{lay-first}
 use Rattle.promises.proofs.Records.{show-begin, shows, shows-bytes}
 use Rattle.promises.proofs.Park.{park-setup}
 
-good-after : (e : Engine) (h : List Call) → Good e → AllRecords h → Good (afterAll e h)
+pub good-after : (e : Engine) (h : List Call) → Good e → AllRecords h → Good (afterAll e h)
 unfolding afterAll after AllRecords
 good-after e [] g b = g
 good-after e (Begin w l rec ∷ cs) g b = good-after _ cs (good-begin e w l rec g (b .0)) (b .1)

@@ -12,29 +12,7 @@ use Rattle.engine.specs.State.{inUse, freeSheet, wordsOf, locksOf, stateRecord}
 use Rattle.engine.specs.Calls.{setupOf, beginOf, showOf, shownOf, parkOf, parkedOf}
 use Rattle.engine.specs.declared.Engine.{Engine}
 use Rattle.engine.specs.declared.WriteTold.{WriteTold}
-use Rattle.promises.specs.History.{Call, Begin, Step, Collect, Drop, ReadWord, ReadLock, Show, Park, after, afterAll}
-
--- every record of a history is a string of bytes
-unfoldable pub AllRecords : List Call → Type 0
-AllRecords [] = Unit {0}
-AllRecords (Begin w l rec ∷ cs) = AllBytes rec × AllRecords cs
-AllRecords (Step w ∷ cs) = AllRecords cs
-AllRecords (Collect w ∷ cs) = AllRecords cs
-AllRecords (Drop w ∷ cs) = AllRecords cs
-AllRecords (ReadWord i ∷ cs) = AllRecords cs
-AllRecords (ReadLock l ∷ cs) = AllRecords cs
-AllRecords (Show s room ∷ cs) = AllRecords cs
-AllRecords (Park room ∷ cs) = AllRecords cs
-
--- "A contract may take the state to be one that these calls gave": a setup's bytes, and a history on what it gave
-pub record Past : Type 0 where
-  pub setup : List ℕ
-  pub calls : List Call
-  pub setupBytes : AllBytes setup
-  pub callsBytes : AllRecords calls
-
-abbrev pub stateAfter : Past → Engine
-stateAfter p = afterAll (setupOf (p .setup) .engine) (p .calls)
+use Rattle.promises.specs.History.{Call, after, afterAll, AllRecords, Past, stateAfter}
 
 -- sheet s is in use all along a history from state e
 unfoldable pub UsedAlong : ℕ → Engine → List Call → Type 0

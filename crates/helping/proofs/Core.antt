@@ -1,0 +1,222 @@
+-- One step of one run keeps the invariant, for itself and for every other run of the sheet.
+use Prim.Native.Nat.{ℕ, suc, _≤_, _<_}
+use mathlib.Core.Path.{_≡_, refl, sym, ap, _∙_, subst}
+use mathlib.Core.Logic.{_⊎_, inl, inr, ⊎-elim}
+use native.Mathlib.Nat.{eq-or-lt-of-le, le-refl, le-trans}
+use native.Mathlib.Omega.{arith}
+use lib.Dec.{eqb}
+use Rattle.parts.specs.Pick.{pick}
+use Rattle.parts.specs.declared.Follows.{Follows}
+use Rattle.parts.specs.declared.Follows.the-variants as follows
+use Rattle.parts.specs.declared.Reading.{Reading}
+use Rattle.parts.specs.declared.Slot.the-variants.{Empty, Filled}
+use Rattle.steps.specs.declared.Point.{Point}
+use Rattle.steps.specs.declared.Point.the-variants.{Look, Grab, LookAgain, ReadMark, Read, Commit, Swap, Mark, Release}
+use Rattle.steps.specs.declared.Run.{Run}
+use Rattle.helping.specs.Machine.{Rules, Shared, Pace, Act, fin, go, touch, target, put, ontoOf, loggedOf, heldOf, swapOf, readOf, followOf, commitOf, paceOf}
+use Rattle.helping.specs.Ideal.{Job, Ideal, raised, nextOf, idealOf, actIn, Touches, metIn, Follow, entryIn, Guarded, FineJob, Inv, At, In, Stands, Moved, Kept}
+use Rattle.helping.proofs.Put.{put-idle}
+use Rattle.helping.proofs.Run.{next-done, next-swap, swapped}
+use Rattle.helping.proofs.Inside.{touches, names-in, asks-same, go-on, done-on, swap-on, still-there}
+use Rattle.helping.proofs.Commit.{empty-here, Committed, logOf, commit, swap-first, swap-late}
+
+-- the frontier passes instruction n
+push :
+    (K : Rules) (J : Job) (n : ℕ) (x : Shared) (ws : ℕ → Reading) → Inv K J n x →
+    ((q : ℕ) → Guarded K (J .lock) q → ws q ≡ idealOf J (suc n) .words q) →
+    (Touches (actIn J n) → entryIn J x n ≡ Filled (metIn J n)) →
+    Inv K J (suc n) (record { word = ws; log = x .log })
+push K J n x ws v e f =
+    record {
+      words = e;
+      past = λ j h t.
+          ⊎-elim
+          (λ (z : j ≡ n). subst (λ (k : ℕ). Touches (actIn J k) → entryIn J x k ≡ Filled (metIn J k)) (sym z) f t)
+          (λ (z : j < n). v .past j z t) (eq-or-lt-of-le {n = j} {m = n} (omega arith));
+      here = λ t. inl (v .later (suc n) (le-refl _) t);
+      later = λ j h t. v .later j (omega arith) t;
+    }
+
+-- the state stays, and so does the instruction
+stay : (K : Rules) (J : Job) (n : ℕ) (x : Shared) (p : Point) → Inv K J n x → Stands J n x p →
+    Kept K J n x (record { shared = x; point = p })
+stay K J n x p v t = record { to = n; inv = v; stands = t; moved = still-there J n x }
+
+-- one step after another
+chain :
+    (K : Rules) (J : Job) (n : ℕ) (x : Shared) (n′ : ℕ) (x′ : Shared) (b : Pace) → Moved J n x n′ x′ → Kept K J n′ x′ b →
+    Kept K J n x b
+chain K J n x n′ x′ b m k =
+    record {
+      to = k .to;
+      inv = k .inv;
+      stands = k .stands;
+      moved =
+          record {
+            up = le-trans (m .up) (k .moved .up);
+            kept = λ j t e. m .kept j t (k .moved .kept j t e);
+            holds = λ j e t q. k .moved .holds j e t (m .holds j e t q);
+            still = λ j h t e.
+                k .moved .still j (le-trans h (m .up)) t e ∙ m .still j h t (k .moved .kept j t e);
+          };
+    }
+
+-- the run at instruction j ends it; the words become ws
+module _ (K : Rules) (J : Job) (n j : ℕ) (x : Shared) (ws : ℕ → Reading) (p : Point) where
+  finish :
+      Inv K J n x → j ≤ n → In J (suc j) (record { word = ws; log = x .log }) p →
+      (Touches (actIn J j) → entryIn J x j ≡ Filled (metIn J j)) →
+      (ws ≡ x .word) ⊎ Touches (actIn J j) →
+      (j < n → ws ≡ x .word) →
+      (j ≡ n → (q : ℕ) → Guarded K (J .lock) q → ws q ≡ idealOf J (suc j) .words q) →
+      Kept K J n x (record { shared = record { word = ws; log = x .log }; point = p })
+  finish v h i f c late now = go (eq-or-lt-of-le h)
+    where
+      still :
+          (k : ℕ) → k ≤ n → j ≡ n → (ws ≡ x .word) ⊎ Touches (actIn J j) → Touches (actIn J k) → entryIn J x k ≡ Empty →
+          ws (target (actIn J k)) ≡ x .word (target (actIn J k))
+      still k l z (inl e) t y = ap (λ (g : ℕ → Reading). g (target (actIn J k))) e
+      still k l z (inr d) t y =
+          let e : k ≡ j = empty-here K J n k x v l t y ∙ sym z in
+          let y′ : entryIn J x j ≡ Empty = rw e at y in
+          cc (f d)
+
+      go :
+          (j ≡ n) ⊎ (j < n) → Kept K J n x (record { shared = record { word = ws; log = x .log }; point = p })
+      go (inl z) =
+          record {
+            to = suc n;
+            inv =
+                push K J n x ws v
+                (subst (λ (k : ℕ). (q : ℕ) → Guarded K (J .lock) q → ws q ≡ idealOf J (suc k) .words q) z (now z))
+                (subst (λ (k : ℕ). Touches (actIn J k) → entryIn J x k ≡ Filled (metIn J k)) z f);
+            stands = record { j = suc j; behind = omega arith; inn = i };
+            moved =
+                record {
+                  up = omega arith;
+                  kept = λ k t e. e;
+                  holds = λ k e t q. q;
+                  still = λ k l t e. still k l z c t e;
+                };
+          }
+      go (inr z) =
+          record {
+            to = n;
+            inv = subst (λ (l : ℕ → Reading). Inv K J n (record { word = l; log = x .log })) (sym (late z)) v;
+            stands = record { j = suc j; behind = z; inn = i };
+            moved =
+                record {
+                  up = le-refl n;
+                  kept = λ k t e. e;
+                  holds = λ k e t q. q;
+                  still = λ k l t e. ap (λ (g : ℕ → Reading). g (target (actIn J k))) (late z);
+                };
+          }
+
+module _ (K : Rules) (J : Job) (n : ℕ) (x : Shared) (j : ℕ) (v : Inv K J n x) (h : j ≤ n) where
+  -- an instruction that changes no word
+  plain :
+      (p : Point) → In J (suc j) x p → (Touches (actIn J j) → entryIn J x j ≡ Filled (metIn J j)) →
+      idealOf J (suc j) .words ≡ idealOf J j .words → Kept K J n x (record { shared = x; point = p })
+  plain p i g e =
+      finish K J n j x (x .word) p v h i g (inl refl) (λ z. refl)
+      (λ z q k.
+      v .words q k ∙ ap (λ (m : ℕ). idealOf J m .words q) (sym z) ∙ ap (λ (w : ℕ → Reading). w q) (sym e))
+
+  read-kept :
+      (r : Run) → At J j r → r .place ≡ idealOf J j .place → (a : Act) → actIn J j ≡ a →
+      Kept K J n x (readOf a x r)
+  unfolding idealOf nextOf
+  read-kept r at p (fin said) e = stay K J n x _ v (record { j = j; behind = h; inn = (at, p, e) })
+  read-kept r at p (go rs k) e =
+      plain _ (go-on J j r at x k rs e p) (λ t. absurd (subst Touches e t))
+      (ap (λ (a : Act). nextOf a (idealOf J j) .words) e)
+  read-kept r at p (touch w g) e =
+      stay K J n x _ v
+      (record {
+        j = j;
+        behind = h;
+        inn = (at, p, subst Touches (sym e) tt, λ z. ap (λ (a : Act). x .word (target a)) (sym e));
+      })
+
+module _ (K : Rules) (J : Job) (f : FineJob K J) (n : ℕ) (x : Shared) (j : ℕ) (v : Inv K J n x) (h : j ≤ n) where
+  -- after a commit, by what follows from the entry
+  follow-kept :
+      (r : Run) → At J j r → r .place ≡ suc (idealOf J j .place) → (x′ : Shared) (e : Reading) →
+      Committed K J n x x′ j e → (s : Follows) → Follow (actIn J j) (e .value) s →
+      Kept K J n x (record { shared = x′; point = followOf s r e })
+  unfolding idealOf
+  follow-kept r at p x′ e c (follows.Done rs) q =
+      let g = subst (λ (u : Reading). Follow (actIn J j) (u .value) (follows.Done rs)) (c .right) q in
+      chain K J n x n x′ _ (c .moved)
+      (plain K J n x′ j (c .inv) h _ (done-on J j r at x′ rs g p) (λ t. c .now ∙ ap Filled (c .right))
+      (ap (λ (s : Ideal). s .words) (next-done (actIn J j) (idealOf J j) rs g)))
+  follow-kept r at p x′ e c (follows.Swap new) q =
+      let g = subst (λ (u : Reading). Follow (actIn J j) (u .value) (follows.Swap new)) (c .right) q in
+      chain K J n x n x′ _ (c .moved)
+      (stay K J n x′ _ (c .inv)
+      (record { j = j; behind = h; inn = (at, p, g, c .right, c .now ∙ ap Filled (c .right)) }))
+
+  commit-kept :
+      (r : Run) (u : Reading) → At J j r → r .place ≡ idealOf J j .place → Touches (actIn J j) →
+      (entryIn J x j ≡ Empty → u ≡ x .word (target (actIn J j))) → (a : Act) → actIn J j ≡ a →
+      Kept K J n x (commitOf a x r u)
+  commit-kept r u at p t w (fin said) e = absurd (subst Touches e t)
+  commit-kept r u at p t w (go rs k) e = absurd (subst Touches e t)
+  commit-kept r u at p t w (touch q g) e =
+      let c =
+      subst (λ (i : ℕ). Committed K J n x (logOf x i (heldOf (x .log i) u)) j (heldOf (x .log i) u)) (sym p)
+      (commit K J f n x j u v h t w (entryIn J x j) refl) in
+      follow-kept (loggedOf r) (record { next = at .next; registers = at .registers }) (ap suc p) _ _ c _
+      (subst (λ (a : Act). Follow a (heldOf (x .log (r .place)) u .value) (g (heldOf (x .log (r .place)) u .value))) (sym e) refl)
+
+  -- the first swap takes effect, and a late one does nothing
+  swap-kept :
+      (r : Run) (new : ℕ) → At J j r → r .place ≡ suc (idealOf J j .place) →
+      Follow (actIn J j) (metIn J j .value) (follows.Swap new) → entryIn J x j ≡ Filled (metIn J j) →
+      let w = target (actIn J j) in
+      Kept K J n x
+      (record {
+        shared = record { word = put (x .word) w (swapOf (x .word w) (metIn J j) new); log = x .log };
+        point = Read (ontoOf r 0 (r .registers));
+      })
+  unfolding idealOf
+  swap-kept r new at p g q =
+      let w = target (actIn J j) in
+      let t = touches (actIn J j) _ _ g in
+      let here = v .words w (names-in K J f j t) in
+      finish K J n j x _ _ v h (swap-on J j r at x new g p) (λ k. q) (inr t)
+      (λ z.
+      put-idle (x .word) w _
+      (swap-late (x .word w) (metIn J j) new
+      (omega (arith, swapped J j n new g z, ap (λ (u : Reading). u .count) here))))
+      (λ z k d.
+      let same : x .word w ≡ metIn J j = here ∙ ap (λ (m : ℕ). idealOf J m .words w) (sym z) in
+      let first : swapOf (x .word w) (metIn J j) new ≡ raised (metIn J j) new =
+      ap (λ (u : Reading). swapOf u (metIn J j) new) same ∙ swap-first (metIn J j) new in
+      ap (λ (u : Reading). put (x .word) w u k) first ∙
+      ap (λ (u : Reading). pick (eqb k w) (raised (metIn J j) new) u)
+      (v .words k d ∙ ap (λ (m : ℕ). idealOf J m .words k) (sym z)) ∙
+      sym (ap (λ (s : Ideal). s .words k) (next-swap (actIn J j) (idealOf J j) new g)))
+
+  point-kept : (p : Point) → In J j x p → Kept K J n x (paceOf (J .code) x p)
+  unfolding paceOf
+  point-kept Look i = absurd i
+  point-kept (Grab seen) i = absurd i
+  point-kept (LookAgain won) i = absurd i
+  point-kept (ReadMark seen won) i = absurd i
+  point-kept (Read r) (at, p) =
+      subst (λ (a : Act). Kept K J n x (readOf a x r)) (sym (asks-same J j r at))
+      (read-kept K J n x j v h r at p (actIn J j) refl)
+  point-kept (Commit r u) (at, p, t, w) =
+      subst (λ (a : Act). Kept K J n x (commitOf a x r u)) (sym (asks-same J j r at))
+      (commit-kept r u at p t w (actIn J j) refl)
+  point-kept (Swap r e new) (at, p, g, d, q) =
+      rw (asks-same J j r at, d) (swap-kept r new at p g q)
+  point-kept (Mark r said) i = stay K J n x _ v (record { j = j; behind = h; inn = i })
+  point-kept (Release r said) i = stay K J n x _ v (record { j = j; behind = h; inn = i })
+
+pub step-kept :
+    (K : Rules) (J : Job) → FineJob K J → (n : ℕ) (x : Shared) (p : Point) → Inv K J n x → Stands J n x p →
+    Kept K J n x (paceOf (J .code) x p)
+step-kept K J f n x p v t = point-kept K J f n x (t .j) v (t .behind) p (t .inn)

@@ -1,0 +1,98 @@
+-- A run inside an instruction of the ideal run: what it asks for, where it comes to, and how a step of another run leaves it.
+use Prim.Native.Nat.{ℕ, suc, _+_, _≤_}
+use mathlib.Core.Path.{_≡_, refl, sym, ap, _∙_}
+use native.Mathlib.Nat.{le-refl, le-trans}
+use native.Mathlib.Omega.{arith}
+use Rattle.parts.specs.declared.Follows.{Follows}
+use Rattle.parts.specs.declared.Follows.the-variants as follows
+use Rattle.parts.specs.declared.Registers.{Registers}
+use Rattle.steps.specs.declared.Point.{Point}
+use Rattle.steps.specs.declared.Point.the-variants.{Look, Grab, LookAgain, ReadMark, Read, Commit, Swap, Mark, Release}
+use Rattle.steps.specs.declared.Run.{Run}
+use Rattle.helping.specs.Machine.{Rules, Shared, Act, fin, go, touch, actAt, target, ontoOf}
+use Rattle.helping.specs.Ideal.{farOf, Job, Ideal, nextOf, idealOf, actIn, Touches, metIn, Follow, Guarded, FineJob, At, In, Stands, Moved}
+use Rattle.helping.proofs.Run.{next-in, next-done, next-swap}
+
+-- what follows from a word follows at an instruction that asks for one
+pub touches : (a : Act) (v : ℕ) (x : Follows) → Follow a v x → Touches a
+touches (fin said) v x e = absurd e
+touches (go rs n) v x e = absurd e
+touches (touch w f) v x e = tt
+
+-- an instruction that asks for a word passes over none
+pub touch-far : (a : Act) → Touches a → farOf a ≡ 1
+touch-far (fin said) t = absurd t
+touch-far (go rs n) t = absurd t
+touch-far (touch w f) t = refl
+
+-- a word that instruction n asks for is one of the sheet's lock
+pub names-in :
+    (K : Rules) (J : Job) → FineJob K J → (n : ℕ) → Touches (actIn J n) → Guarded K (J .lock) (target (actIn J n))
+names-in K J f n t = f .names _ (idealOf J n .registers) (next-in K J f n) t
+
+-- a run at its instruction asks for what the ideal run asks for
+pub asks-same : (J : Job) (j : ℕ) (r : Run) → At J j r → actAt (J .code) (r .next) (r .registers) ≡ actIn J j
+asks-same J j r a = rw (a .next, a .registers)
+
+-- where a run comes to when it ends instruction j, and what the ideal run does there
+module _ (J : Job) (j : ℕ) (r : Run) (at : At J j r) where
+  onto :
+      (over : ℕ) (rs : Registers) (x : Shared) (s : Ideal) → idealOf J (suc j) ≡ s →
+      suc (idealOf J j .next + over) ≡ s .next → rs ≡ s .registers → r .place ≡ s .place →
+      In J (suc j) x (Read (ontoOf r over rs))
+  onto over rs x s e n q p = (
+    record {
+      next = omega (arith, at .next, ap (λ (t : Ideal). t .next) e);
+      registers = q ∙ sym (ap (λ (t : Ideal). t .registers) e);
+    },
+    p ∙ sym (ap (λ (t : Ideal). t .place) e),
+  )
+
+  pub go-on :
+      (x : Shared) (n : ℕ) (rs : Registers) → actIn J j ≡ go rs n → r .place ≡ idealOf J j .place →
+      In J (suc j) x (Read (ontoOf r n rs))
+  unfolding idealOf nextOf
+  go-on x n rs e p =
+      onto n rs x _ (ap (λ (a : Act). nextOf a (idealOf J j)) e) refl refl p
+
+  pub done-on :
+      (x : Shared) (rs : Registers) → Follow (actIn J j) (metIn J j .value) (follows.Done rs) →
+      r .place ≡ suc (idealOf J j .place) → In J (suc j) x (Read (ontoOf r 0 rs))
+  unfolding idealOf
+  done-on x rs e p = onto 0 rs x _ (next-done (actIn J j) (idealOf J j) rs e) (omega arith) refl p
+
+  pub swap-on :
+      (x : Shared) (new : ℕ) → Follow (actIn J j) (metIn J j .value) (follows.Swap new) →
+      r .place ≡ suc (idealOf J j .place) → In J (suc j) x (Read (ontoOf r 0 (r .registers)))
+  unfolding idealOf
+  swap-on x new e p =
+      onto 0 (r .registers) x _ (next-swap (actIn J j) (idealOf J j) new e) (omega arith) (at .registers) p
+
+-- another run, seen across a step
+in-moved :
+    (J : Job) (n n′ : ℕ) (x x′ : Shared) → Moved J n x n′ x′ → (j : ℕ) (p : Point) → j ≤ n → In J j x p → In J j x′ p
+in-moved J n n′ x x′ m j Look h i = absurd i
+in-moved J n n′ x x′ m j (Grab seen) h i = absurd i
+in-moved J n n′ x x′ m j (LookAgain won) h i = absurd i
+in-moved J n n′ x x′ m j (ReadMark seen won) h i = absurd i
+in-moved J n n′ x x′ m j (Read r) h i = i
+in-moved J n n′ x x′ m j (Commit r u) h (a, p, t, w) =
+    (a, p, t, λ e. w (m .kept j t e) ∙ sym (m .still j h t e))
+in-moved J n n′ x x′ m j (Swap r e new) h (a, p, t, w, q) =
+    (a, p, t, w, m .holds j _ (touches (actIn J j) _ _ t) q)
+in-moved J n n′ x x′ m j (Mark r said) h i = i
+in-moved J n n′ x x′ m j (Release r said) h i = i
+
+pub others :
+    (J : Job) (n n′ : ℕ) (x x′ : Shared) (p : Point) → Moved J n x n′ x′ → Stands J n x p → Stands J n′ x′ p
+others J n n′ x x′ p m t =
+    record {
+      j = t .j;
+      behind = le-trans (t .behind) (m .up);
+      inn = in-moved J n n′ x x′ m (t .j) p (t .behind) (t .inn);
+    }
+
+-- nothing moved
+pub still-there : (J : Job) (n : ℕ) (x : Shared) → Moved J n x n x
+still-there J n x =
+    record { up = le-refl n; kept = λ j t e. e; holds = λ j e t q. q; still = λ j h t e. refl }

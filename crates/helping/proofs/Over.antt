@@ -1,0 +1,114 @@
+-- A try that was told "not taken" stands in no list, at this and every later cut: it never comes to win.
+use Prim.Native.Nat.{ℕ}
+use native.Mathlib.Omega.{arith}
+use mathlib.Core.Path.{_≡_, sym, ap, _∙_, subst}
+use mathlib.Core.Logic.{⊎-elim, _≢_}
+use mathlib.Core.Bool.{Bool, true, false}
+use mathlib.Core.List.{List}
+use lib.Dec.{eqb}
+use Rattle.parts.specs.Pick.{pick}
+use Rattle.parts.specs.declared.Answer.the-variants.{NotTaken}
+use Rattle.parts.specs.declared.Instr.{Instr}
+use Rattle.steps.specs.Worker.{worker0, lookingOf}
+use Rattle.steps.specs.declared.Point.{Point}
+use Rattle.steps.specs.declared.Point.the-variants.{Look, Grab, LookAgain, ReadMark, Read, Commit, Swap, Mark, Release}
+use Rattle.steps.specs.declared.State.{State}
+use Rattle.steps.specs.declared.State.the-variants.{UnderWay, Finished}
+use Rattle.steps.specs.declared.Worker.{Worker}
+use Rattle.helping.specs.Machine.{Rules, Scene, Tale, stepAt, winTale, stepTale, begunOf, beginTale, idledOf}
+use Rattle.helping.specs.Ok.{Status, viewOf, Named, Busy, Ok, Over}
+use Rattle.helping.proofs.Put.{put-other, put-at, all-but}
+use Rattle.helping.proofs.Wins.{absent-win}
+use Rattle.helping.proofs.Moves.{grab-way}
+
+pub over-told :
+    (K : Rules) (E : Scene) (T : Tale) (st : ℕ → Status) → Ok K E T st → (i : ℕ) →
+    E .worker i .state ≡ Finished NotTaken → Over E T (T .tries i .number)
+over-told K E T st o i e =
+    record {
+      begun = o .begun i (busy e);
+      none = subst (Named K T (viewOf E st) (T .tries i) (E .worker i)) e (o .named i) .1;
+      gone =
+          λ m p h same.
+          let at : m ≡ i = o .ids m i (subst Busy (sym h) tt) (busy e) same in
+          let both : UnderWay p ≡ Finished NotTaken = sym h ∙ ap (λ m. E .worker m .state) at ∙ e in
+          let z : _≡_ {A = ℕ} 0 1 = cc in
+          absurd (omega arith);
+    }
+  where
+    busy : {s : State} → s ≡ Finished NotTaken → Busy s
+    busy h = subst Busy (sym h) tt
+
+pub over-begin :
+    (E : Scene) (T : Tale) (n i l s : ℕ) (code : List Instr) → Over E T n →
+    Over (begunOf E i l code s) (beginTale T i l code) n
+over-begin E T n i l s code v =
+    record { begun = omega (arith, v .begun); none = v .none; gone = λ m p h. go m p (eqb m i) h }
+  where
+    go :
+        (m : ℕ) (p : Point) (b : Bool) → pick b (lookingOf l s) (E .worker m) .state ≡ UnderWay p →
+        pick b (record { number = T .begins; lock = l; program = code }) (T .tries m) .number ≢ n
+    go m p true h same = omega (arith, v .begun)
+    go m p false h same = v .gone m p h same
+
+-- a step of worker i leaves the others
+step-aside :
+    (K : Rules) (E : Scene) (i m : ℕ) (k : Worker) (p : Point) → m ≢ i → stepAt K E i k p .worker m ≡ E .worker m
+unfolding stepAt
+step-aside K E i m k Look n = put-other (E .worker) i _ m n
+step-aside K E i m k (Grab seen) n = put-other (E .worker) i _ m n
+step-aside K E i m k (LookAgain won) n = put-other (E .worker) i _ m n
+step-aside K E i m k (ReadMark seen won) n = put-other (E .worker) i _ m n
+step-aside K E i m k (Read r) n = put-other (E .worker) i _ m n
+step-aside K E i m k (Commit r u) n = put-other (E .worker) i _ m n
+step-aside K E i m k (Swap r e new) n = put-other (E .worker) i _ m n
+step-aside K E i m k (Mark r said) n = put-other (E .worker) i _ m n
+step-aside K E i m k (Release r said) n = put-other (E .worker) i _ m n
+
+-- a step tells nothing new, or that worker i has won its lock
+step-tale :
+    (P : Tale → Type 0) (T : Tale) (E : Scene) (i : ℕ) (k : Worker) (p : Point) → P T → P (winTale T i (k .lock)) →
+    P (stepTale T E i k p)
+unfolding stepTale
+step-tale P T E i k Look a b = a
+step-tale P T E i k (Grab seen) a b =
+    ⊎-elim (λ z. subst P (sym (z .1)) a) (λ z. subst P (sym (z .2)) b)
+    (grab-way T i (k .lock) seen (k .own) (E .lock (k .lock)))
+step-tale P T E i k (LookAgain won) a b = a
+step-tale P T E i k (ReadMark seen won) a b = a
+step-tale P T E i k (Read r) a b = a
+step-tale P T E i k (Commit r u) a b = a
+step-tale P T E i k (Swap r e new) a b = a
+step-tale P T E i k (Mark r said) a b = a
+step-tale P T E i k (Release r said) a b = a
+
+pub over-step :
+    (K : Rules) (E : Scene) (T : Tale) (n i : ℕ) (p : Point) → E .worker i .state ≡ UnderWay p → Over E T n →
+    Over (stepAt K E i (E .worker i) p) (stepTale T E i (E .worker i) p) n
+over-step K E T n i p e v =
+    step-tale (λ S. Over (stepAt K E i (E .worker i) p) S n) T E i (E .worker i) p
+    (record { begun = v .begun; none = v .none; gone = gone })
+    (record {
+      begun = v .begun;
+      none = absent-win T i (E .worker i .lock) n (v .gone i p e) (v .none);
+      gone = gone;
+    })
+  where
+    gone :
+        (m : ℕ) (q : Point) → stepAt K E i (E .worker i) p .worker m .state ≡ UnderWay q → T .tries m .number ≢ n
+    gone =
+        all-but
+        (λ m. (q : Point) → stepAt K E i (E .worker i) p .worker m .state ≡ UnderWay q → T .tries m .number ≢ n) i
+        (λ q h. v .gone i p e)
+        (λ m ne q h. v .gone m q (ap (λ (k : Worker). k .state) (sym (step-aside K E i m (E .worker i) p ne)) ∙ h))
+
+pub over-idle : (E : Scene) (T : Tale) (n i : ℕ) → Over E T n → Over (idledOf E i) T n
+over-idle E T n i v =
+    record {
+      begun = v .begun;
+      none = v .none;
+      gone =
+          put-at (λ m k. (p : Point) → k .state ≡ UnderWay p → T .tries m .number ≢ n) (E .worker) i worker0
+          (λ p h same. let z : _≡_ {A = ℕ} 0 1 = cc in omega arith)
+          (λ m ne. v .gone m);
+    }

@@ -1,0 +1,162 @@
+-- The steps of a run, at an instruction and at its mark, keep the invariant, whether or not its sheet still holds the lock.
+use Prim.Native.Nat.{ℕ}
+use native.Mathlib.Omega.{arith}
+use mathlib.Core.Path.{_≡_, refl, sym, ap, _∙_, subst}
+use mathlib.Core.Logic.{_≢_}
+use mathlib.Core.Bool.{Bool, true}
+use mathlib.Core.List.{List}
+use Rattle.parts.specs.declared.Instr.{Instr}
+use Rattle.steps.specs.declared.Point.{Point}
+use Rattle.steps.specs.declared.Point.the-variants.{Look, Grab, LookAgain, ReadMark, Read, Commit, Swap, Mark, Release}
+use Rattle.steps.specs.declared.Run.{Run}
+use Rattle.steps.specs.declared.State.the-variants.{UnderWay}
+use Rattle.helping.specs.Machine.{Rules, Scene, Shared, Tale, put, setLock, setDone, sharedOf, setShared, onTo, paceOf, pacedOf}
+use Rattle.helping.specs.Ideal.{Job, Stands}
+use Rattle.helping.specs.Ok.{Kind, unwon, current, past, Status, View, viewOf, sharedAt, Won, RunsAt, PointOk, Ok, Next}
+use Rattle.helping.proofs.Put.{put-same, put-other, put-idle}
+use Rattle.helping.proofs.Distinct.{won-kind}
+use Rattle.helping.proofs.Core.{step-kept}
+use Rattle.helping.proofs.Stale.{stale}
+use Rattle.helping.proofs.Touch.{touched, OnRun, run-on, Going, paced}
+use Rattle.helping.proofs.Change.{sheet-at, on-sheet}
+use Rattle.helping.proofs.Marks.{marks}
+use Rattle.helping.proofs.Shared.{frontOf, shared-there, shares}
+use Rattle.helping.proofs.Looks.{mine, goes}
+
+-- a point of a run of sheet s, which won at this turn, by what is known of the sheet
+module _ (K : Rules) (v : View) (own l s won : ℕ) (help : s ≢ own → v .st own .kind ≡ unwon) (w : Won (v .st s) l won)
+  where
+    runs-at :
+        (r : Run) (q : Point) → (r .sheet ≡ s) × (r .won ≡ won) →
+        Stands (v .st s .job) (v .st s .front) (sharedAt v s) q → RunsAt v own l r q
+    runs-at r q a t = (
+      record {
+        help = λ n. help (λ z. n (a .0 ∙ z));
+        won = subst (λ (m : ℕ). Won (v .st m) l (r .won)) (sym (a .0)) (subst (Won (v .st s) l) (sym (a .1)) w);
+      },
+      subst (λ (m : ℕ). Stands (v .st m .job) (v .st m .front) (sharedAt v m) q) (sym (a .0)) t,
+    )
+
+    point-at :
+        (q : Point) → OnRun s won q → Stands (v .st s .job) (v .st s .front) (sharedAt v s) q → PointOk K v own l q
+    point-at Look a t = absurd a
+    point-at (Grab seen) a t = absurd a
+    point-at (LookAgain at) a t = absurd a
+    point-at (ReadMark seen at) a t = absurd a
+    point-at (Read r) a t = runs-at r (Read r) a t
+    point-at (Commit r u) a t = runs-at r (Commit r u) a t
+    point-at (Swap r e new) a t = runs-at r (Swap r e new) a t
+    point-at (Mark r said) a t = runs-at r (Mark r said) a t
+    point-at (Release r said) a t = absurd a
+
+-- what is put is what stood there: the scene is the same
+shared-self : (E : Scene) (s : ℕ) → setShared E s (sharedOf E s) ≡ E
+shared-self E s =
+    λ i.
+    record {
+      word = E .word;
+      lock = E .lock;
+      program = E .program;
+      done = E .done;
+      log = put-idle (E .log) s (E .log s) refl i;
+      worker = E .worker;
+    }
+
+pub lock-self : (E : Scene) (l : ℕ) → setLock E l (E .lock l) ≡ E
+lock-self E l =
+    λ i.
+    record {
+      word = E .word;
+      lock = put-idle (E .lock) l (E .lock l) refl i;
+      program = E .program;
+      done = E .done;
+      log = E .log;
+      worker = E .worker;
+    }
+
+module _ (K : Rules) (E : Scene) (T : Tale) (st : ℕ → Status) (o : Ok K E T st) (i : ℕ) where
+  abbrev own : ℕ
+  own = E .worker i .own
+
+  abbrev l : ℕ
+  l = E .worker i .lock
+
+  -- the scene after a step of a run by this program
+  abbrev stepped : List Instr → ℕ → Point → Scene
+  stepped code s p =
+      onTo (setShared E s (paceOf code (sharedOf E s) p .shared)) i (E .worker i)
+      (UnderWay (paceOf code (sharedOf E s) p .point))
+
+  module _ (p : Point) (e : E .worker i .state ≡ UnderWay p) (s won : ℕ) (on : OnRun s won p) (g : Going p)
+      (help : s ≢ own → st own .kind ≡ unwon) (w : Won (st s) l won)
+      (stands : Stands (st s .job) (st s .front) (sharedOf E s) p) where
+    -- of a sheet that holds its lock
+    pace-current : st s .kind ≡ current → Next K (stepped (st s .job .code) s p) T
+    pace-current cur =
+        let J : Job = st s .job in
+        let h = sheet-at K E T st o s current cur in
+        let b = paceOf (J .code) (sharedOf E s) p in
+        let C = step-kept K J (h .0 .fine) (st s .front) (sharedOf E s) p (h .2) stands in
+        let t = touched K J (h .0 .fine) (st s .front) (sharedOf E s) p stands in
+        let after : ℕ → Status = put st s (frontOf (st s) (C .to)) in
+        let here : after s ≡ frontOf (st s) (C .to) = put-same st s (frontOf (st s) (C .to)) in
+        record {
+          st = after;
+          ok =
+              goes K (setShared E s (b .shared)) T after
+              (shares K E T st o s cur (b .shared) (C .to) t (C .inv) (C .moved)) i p e (b .point)
+              (paced K J (h .0 .fine) (st s .front) (sharedOf E s) p stands g)
+              (point-at K (viewOf (setShared E s (b .shared)) after) own l s won
+              (λ n.
+              ap (λ (σ : Status). σ .kind) (put-other st s (frontOf (st s) (C .to)) own (λ (z : own ≡ s). n (sym z))) ∙
+              help n)
+              (subst (λ (σ : Status). Won σ l won) (sym here)
+              (record { is = won-kind current (omega arith); lock = w .lock; turn = w .turn }))
+              (b .point) (run-on (J .code) (sharedOf E s) p s won on)
+              (subst
+              (λ (σ : Status). Stands (σ .job) (σ .front) (sharedAt (viewOf (setShared E s (b .shared)) after) s) (b .point))
+              (sym here)
+              (subst (λ (x : Shared). Stands J (C .to) x (b .point))
+              (sym (shared-there K E T st o s cur (b .shared) (C .to) t (C .inv) (C .moved))) (C .stands))));
+        }
+
+    -- of one that has let go of it
+    pace-past : st s .kind ≡ past → Next K (stepped (st s .job .code) s p) T
+    pace-past z =
+        let J : Job = st s .job in
+        let h = sheet-at K E T st o s past z in
+        let b = paceOf (J .code) (sharedOf E s) p in
+        let S = stale K J (h .0 .fine) (st s .front) (sharedOf E s) p (h .1) stands in
+        subst (λ (x : Shared). Next K (onTo (setShared E s x) i (E .worker i) (UnderWay (b .point))) T) (sym (S .same))
+        (subst (λ (F : Scene). Next K (onTo F i (E .worker i) (UnderWay (b .point))) T) (sym (shared-self E s))
+        (record {
+          st = st;
+          ok =
+              goes K E T st o i p e (b .point) (paced K J (h .0 .fine) (st s .front) (sharedOf E s) p stands g)
+              (point-at K (viewOf E st) own l s won help w (b .point) (run-on (J .code) (sharedOf E s) p s won on)
+              (S .stands));
+        }))
+
+    pub pace-ok : Next K (pacedOf E i (E .worker i) s p) T
+    pace-ok =
+        subst (λ (code : List Instr). Next K (stepped code s p) T) (on-sheet K E T st o s (w .is) .code)
+        (go (st s .kind) refl)
+      where
+        go : (κ : Kind) → st s .kind ≡ κ → Next K (stepped (st s .job .code) s p) T
+        go unwon z = absurd (w .is z)
+        go current z = pace-current z
+        go past z = pace-past z
+
+  pub mark-ok :
+      (r : Run) (said : Bool) → E .worker i .state ≡ UnderWay (Mark r said) →
+      Ok K (onTo (setDone E (r .sheet)) i (E .worker i) (UnderWay (Release r said))) T st
+  mark-ok r said e =
+      let q : RunsAt (viewOf E st) own l r (Mark r said) = mine K E T st o i (Mark r said) e .1 in
+      goes K (setDone E (r .sheet)) T st (marks K E T st o (r .sheet) (q .0 .won .is)) i (Mark r said) e (Release r said)
+      (omega arith) (
+        (
+          record { help = q .0 .help; won = q .0 .won },
+          record { j = q .1 .j; behind = q .1 .behind; inn = q .1 .inn },
+        ),
+        put-same (E .done) (r .sheet) true,
+      )

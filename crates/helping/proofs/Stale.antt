@@ -1,0 +1,130 @@
+-- A run of a sheet that has let go of its lock changes nothing: late helpers are harmless.
+use Prim.Native.Nat.{ℕ, suc, _≤_, _<_}
+use mathlib.Core.Path.{_≡_, refl, sym, ap, _∙_, subst}
+use mathlib.Core.Logic.{⊎-elim}
+use native.Mathlib.Nat.{eq-or-lt-of-le, le-trans}
+use native.Mathlib.Omega.{arith}
+use Rattle.parts.specs.declared.Follows.{Follows}
+use Rattle.parts.specs.declared.Follows.the-variants as follows
+use Rattle.parts.specs.declared.Reading.{Reading}
+use Rattle.parts.specs.declared.Slot.{Slot}
+use Rattle.parts.specs.declared.Slot.the-variants.{Filled}
+use Rattle.steps.specs.declared.Point.{Point}
+use Rattle.steps.specs.declared.Point.the-variants.{Look, Grab, LookAgain, ReadMark, Read, Commit, Swap, Mark, Release}
+use Rattle.steps.specs.declared.Run.{Run}
+use Rattle.helping.specs.Machine.{Rules, Shared, Pace, Act, fin, go, touch, target, put, ontoOf, loggedOf, heldOf, swapOf, readOf, followOf, commitOf, paceOf}
+use Rattle.helping.specs.Ideal.{Job, idealOf, actIn, Touches, metIn, Follow, entryIn, farOf, FineJob, Old, At, In, Stands}
+use Rattle.helping.proofs.Put.{put-idle}
+use Rattle.helping.proofs.Run.{swapped}
+use Rattle.helping.proofs.Inside.{touches, names-in, asks-same, go-on, done-on, swap-on}
+use Rattle.helping.proofs.Commit.{swap-late}
+
+pub record Still (J : Job) (n : ℕ) (x : Shared) (b : Pace) : Type 0 where
+  pub same : b .shared ≡ x
+  pub stands : Stands J n x (b .point)
+
+module _ (K : Rules) (J : Job) (n : ℕ) (x : Shared) (o : Old K J n x) (j : ℕ) (h : j ≤ n) where
+  -- an instruction that is not the halt comes before it
+  before : (P : Act → Type 0) → P (actIn J j) → (P (fin (o .said)) → ⊥) → j < n
+  before P p d =
+      ⊎-elim (λ (z : j ≡ n). absurd (d (subst P (ap (actIn J) z ∙ o .halts) p))) (λ (z : j < n). z) (eq-or-lt-of-le h)
+
+  -- its entries up to the halt are filled
+  pub entered : Touches (actIn J j) → entryIn J x j ≡ Filled (metIn J j)
+  entered t = o .past j (before Touches t (λ e. e)) t
+
+  read-still :
+      (r : Run) → At J j r → r .place ≡ idealOf J j .place → (a : Act) → actIn J j ≡ a → Still J n x (readOf a x r)
+  read-still r at p (fin said) e =
+      record { same = refl; stands = record { j = j; behind = h; inn = (at, p, e) } }
+  read-still r at p (go rs k) e =
+      record {
+        same = refl;
+        stands =
+            record {
+              j = suc j;
+              behind = before (λ (a : Act). 1 ≤ farOf a) (rw e (omega arith)) (λ z. omega arith);
+              inn = go-on J j r at x k rs e p;
+            };
+      }
+  read-still r at p (touch w g) e =
+      record {
+        same = refl;
+        stands =
+            record {
+              j = j;
+              behind = h;
+              inn = (at, p, subst Touches (sym e) tt, λ z. ap (λ (a : Act). x .word (target a)) (sym e));
+            };
+      }
+
+  follow-still :
+      (r : Run) → At J j r → r .place ≡ suc (idealOf J j .place) → Touches (actIn J j) → (s : Follows) →
+      Follow (actIn J j) (metIn J j .value) s → Stands J n x (followOf s r (metIn J j))
+  follow-still r at p t (follows.Done rs) g =
+      record { j = suc j; behind = before Touches t (λ e. e); inn = done-on J j r at x rs g p }
+  follow-still r at p t (follows.Swap new) g =
+      record { j = j; behind = h; inn = (at, p, g, refl, entered t) }
+
+  commit-still :
+      (r : Run) (u : Reading) → At J j r → r .place ≡ idealOf J j .place → Touches (actIn J j) → (a : Act) →
+      actIn J j ≡ a → Still J n x (commitOf a x r u)
+  commit-still r u at p t (fin said) e = absurd (subst Touches e t)
+  commit-still r u at p t (go rs k) e = absurd (subst Touches e t)
+  commit-still r u at p t (touch w g) e =
+      let q : x .log (r .place) ≡ Filled (metIn J j) = ap (x .log) p ∙ entered t in
+      subst
+      (λ (slot : Slot).
+      Still J n x
+      (record {
+        shared = record { word = x .word; log = put (x .log) (r .place) (Filled (heldOf slot u)) };
+        point = followOf (g (heldOf slot u .value)) (loggedOf r) (heldOf slot u);
+      }))
+      (sym q)
+      (record {
+        same = ap (λ (l : ℕ → Slot). record { word = x .word; log = l }) (put-idle (x .log) (r .place) _ (sym q));
+        stands =
+            follow-still (loggedOf r) (record { next = at .next; registers = at .registers }) (ap suc p) t _
+            (subst (λ (a : Act). Follow a (metIn J j .value) (g (metIn J j .value))) (sym e) refl);
+      })
+
+  swap-still :
+      FineJob K J → (r : Run) (new : ℕ) → At J j r → r .place ≡ suc (idealOf J j .place) →
+      Follow (actIn J j) (metIn J j .value) (follows.Swap new) →
+      let w = target (actIn J j) in
+      Still J n x
+      (record {
+        shared = record { word = put (x .word) w (swapOf (x .word w) (metIn J j) new); log = x .log };
+        point = Read (ontoOf r 0 (r .registers));
+      })
+  swap-still f r new at p g =
+      let w = target (actIn J j) in
+      let t = touches (actIn J j) _ _ g in
+      let b : j < n = before Touches t (λ e. e) in
+      record {
+        same =
+            ap (λ (l : ℕ → Reading). record { word = l; log = x .log })
+            (put-idle (x .word) w _
+            (swap-late (x .word w) (metIn J j) new (le-trans (swapped J j n new g b) (o .counts w (names-in K J f j t)))));
+        stands = record { j = suc j; behind = b; inn = swap-on J j r at x new g p };
+      }
+
+  point-still : FineJob K J → (p : Point) → In J j x p → Still J n x (paceOf (J .code) x p)
+  unfolding paceOf
+  point-still f Look i = absurd i
+  point-still f (Grab seen) i = absurd i
+  point-still f (LookAgain won) i = absurd i
+  point-still f (ReadMark seen won) i = absurd i
+  point-still f (Read r) (at, p) =
+      subst (λ (a : Act). Still J n x (readOf a x r)) (sym (asks-same J j r at)) (read-still r at p (actIn J j) refl)
+  point-still f (Commit r u) (at, p, t, w) =
+      subst (λ (a : Act). Still J n x (commitOf a x r u)) (sym (asks-same J j r at))
+      (commit-still r u at p t (actIn J j) refl)
+  point-still f (Swap r e new) (at, p, g, d, q) = rw (asks-same J j r at, d) (swap-still f r new at p g)
+  point-still f (Mark r said) i = record { same = refl; stands = record { j = j; behind = h; inn = i } }
+  point-still f (Release r said) i = record { same = refl; stands = record { j = j; behind = h; inn = i } }
+
+pub stale :
+    (K : Rules) (J : Job) → FineJob K J → (n : ℕ) (x : Shared) (p : Point) → Old K J n x → Stands J n x p →
+    Still J n x (paceOf (J .code) x p)
+stale K J f n x p o t = point-still K J n x o (t .j) (t .behind) f p (t .inn)
