@@ -17,11 +17,11 @@ use Rattle.helping.specs.Machine.{Rules, Scene, Tale, put, grabOf, releaseOf, s
 use Rattle.promises.specs.History.{wonBy}
 
 holds-still : (l : LockWord) → wonBy l l ≡ false
-holds-still l = go (l .holder)
+holds-still l = go (l .holder) refl
   where
-    go : (h : Holder) → onHolder h (onHolder h false (λ s. true)) (λ s. false) ≡ false
-    go Free = refl
-    go (Sheet s) = refl
+    go : (h : Holder) → l .holder ≡ h → wonBy l l ≡ false
+    go Free e = rw e
+    go (Sheet s) e = rw e
 
 put-still : (f : ℕ → LockWord) (k : ℕ) (x : LockWord) → wonBy (f k) x ≡ false → (l : ℕ) → wonBy (f l) (put f k x l) ≡ false
 put-still f k x h l = go (eqb l k) refl
