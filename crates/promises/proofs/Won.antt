@@ -34,10 +34,9 @@ release-still : (l : LockWord) (won s : ℕ) → wonBy l (releaseOf l won s) ≡
 unfolding releaseOf
 release-still l won s = go (l .holder) refl
   where
-    go : (h : Holder) → l .holder ≡ h →
-        onHolder h (onHolder (onHolder h l (λ t. pick (eqb t s) (pick (eqb (l .turn) won) (record { turn = l .turn; holder = Free }) l) l) .holder) false (λ s. true)) (λ s. false) ≡ false
+    go : (h : Holder) → l .holder ≡ h → wonBy l (releaseOf l won s) ≡ false
     go Free e = rw e
-    go (Sheet t) e = refl
+    go (Sheet t) e = rw e
 
 -- what a step makes of the won tries, where no lock was won
 none-won : (T : Tale) (i : ℕ) (f g : ℕ → LockWord) → ((l : ℕ) → wonBy (f l) (g l) ≡ false) →
