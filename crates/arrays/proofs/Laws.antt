@@ -73,6 +73,17 @@ map-start f xs l n h k =
     let q : length (map f xs) ≡ length l = length-map xs f ∙ h ∙ sym k in
     sym (ap (λ (r : List _). lay 0 (map f r) l) (take-all n xs (omega arith)) ∙ lay-whole (map f xs) l q)
 
+-- of n equal elements, those from the j-th on: one, and those after it; none
+pub fill-next : {A : Type 0} (x : A) (n j : ℕ) → j < n → replicate (n - j) x ≡ x ∷ replicate (n - (j + 1)) x
+fill-next x n j h =
+    let q : n - j ≡ suc (n - (j + 1)) = omega arith in
+    ap (λ (m : ℕ). replicate m x) q
+
+pub fill-none : {A : Type 0} (x : A) (n j : ℕ) → n ≤ j → replicate (n - j) x ≡ []
+fill-none x n j h =
+    let q : n - j ≡ 0 = omega arith in
+    ap (λ (m : ℕ). replicate m x) q
+
 -- the same element is laid n times
 pub fill-turn :
     {A : Type 0} (goal l : List A) (x : A) (at n j : ℕ) →
@@ -80,13 +91,10 @@ pub fill-turn :
     j < n →
     goal ≡ lay (at + (j + 1)) (replicate (n - (j + 1)) x) (set l (at + j) x)
 fill-turn goal l x at n j g h =
-    let q : n - j ≡ suc (n - (j + 1)) = omega arith in
-    lay-step goal l _ _ (at + j) (at + (j + 1)) x (omega arith) (ap (λ (m : ℕ). replicate m x) q) g
+    lay-step goal l _ _ (at + j) (at + (j + 1)) x (omega arith) (fill-next x n j h) g
 
 pub fill-end : {A : Type 0} (goal l : List A) (x : A) (at n j : ℕ) → goal ≡ lay at (replicate (n - j) x) l → n ≤ j → l ≡ goal
-fill-end goal l x at n j g h =
-    let q : n - j ≡ 0 = omega arith in
-    lay-done goal l _ at (ap (λ (m : ℕ). replicate m x) q) g
+fill-end goal l x at n j g h = lay-done goal l _ at (fill-none x n j h) g
 
 -- f writes a list element by element, four bytes for each
 pub record Fours {A : Type 0} (f : List A → List ℕ) : Type 0 where
@@ -153,7 +161,27 @@ lock-next s t e h = simp (u32s-turn s h, e)
 pub lock-none : (s : List ℕ) → length s < 4 → map freeAt (u32sOf s) ≡ []
 lock-none s h = ap (map freeAt) (u32s-short s h)
 
--- word j is laid: its guard, and the value of its four bytes
+-- the words from the j-th on: its guard, and the value of its four bytes, and those after it; none
+pub words-next :
+    (guards values : List ℕ) (v j : ℕ) →
+    v ≡
+    u32Of (getD values (4 * j) 0) (getD values (4 * j + 1) 0) (getD values (4 * j + 2) 0) (getD values (4 * j + 3) 0) →
+    j < length guards →
+    length values ≡ 4 * length guards →
+    wordsFrom (drop j guards) (u32sOf (drop (4 * j) values)) ≡
+    record { value = v; count = 0; guard = getD guards j 0 } ∷
+    wordsFrom (drop (j + 1) guards) (u32sOf (drop (4 * (j + 1)) values))
+unfolding wordsFrom
+words-next guards values v j e h k =
+    let q : 4 * suc j ≡ 4 * j + 4 = omega arith in
+    let m : 4 ≤ length (drop (4 * j) values) = simp (length-drop (4 * j) values) (omega arith) in
+    simp (q, add-one j, drop-cons guards j 0 h, u32s-turn (drop (4 * j) values) m, getD-drop, drop-drop, add-zero, e)
+
+pub words-none : (guards values : List ℕ) (j : ℕ) → length guards ≤ j → wordsFrom (drop j guards) values ≡ []
+unfolding wordsFrom
+words-none guards values j h = ap (λ (r : List ℕ). wordsFrom r values) (drop-of-length-le guards h)
+
+-- word j is laid
 pub words-turn :
     (goal l : List Word) (guards values : List ℕ) (v j : ℕ) →
     goal ≡ lay j (wordsFrom (drop j guards) (u32sOf (drop (4 * j) values))) l →
@@ -164,21 +192,16 @@ pub words-turn :
     goal ≡
     lay (j + 1) (wordsFrom (drop (j + 1) guards) (u32sOf (drop (4 * (j + 1)) values)))
     (set l j (record { value = v; count = 0; guard = getD guards j 0 }))
-unfolding wordsFrom
 words-turn goal l guards values v j g e h k =
-    let q : 4 * suc j ≡ 4 * j + 4 = omega arith in
-    let m : 4 ≤ length (drop (4 * j) values) = simp (length-drop (4 * j) values) (omega arith) in
     lay-step goal l _ _ j (j + 1) (record { value = v; count = 0; guard = getD guards j 0 }) refl
-    (simp (q, add-one j, drop-cons guards j 0 h, u32s-turn (drop (4 * j) values) m, getD-drop, drop-drop, add-zero, e)) g
+    (words-next guards values v j e h k) g
 
 pub words-end :
     (goal l : List Word) (guards values : List ℕ) (j : ℕ) →
     goal ≡ lay j (wordsFrom (drop j guards) values) l →
     length guards ≤ j →
     l ≡ goal
-unfolding wordsFrom
-words-end goal l guards values j g h =
-    lay-done goal l _ j (ap (λ (r : List ℕ). wordsFrom r values) (drop-of-length-le guards h)) g
+words-end goal l guards values j g h = lay-done goal l _ j (words-none guards values j h) g
 
 -- lock j is free, and those after it are looked at; or it is held; or there is none
 pub held-turn :

@@ -4,35 +4,42 @@ use lib.ListN.{getD, set}
 use Rattle.parts.specs.Instr.{wordOf}
 use Rattle.parts.specs.Numbers.{workers, mostLocks, mostWords, sheets, instructions, entries}
 use Rattle.parts.specs.Parts.{instr0, entry0}
+use Rattle.parts.specs.declared.Instr.{Instr}
 use Rattle.steps.specs.Places.{spotOf}
 use Rattle.steps.specs.Try.{effectOf}
 use Rattle.steps.specs.declared.Point.{Point}
 use Rattle.steps.specs.declared.Spot.{Spot}
 use Rattle.steps.specs.declared.View.{View}
+use Rattle.steps.specs.declared.Worker.{Worker}
 use Rattle.engine.specs.State.{sheet0, workerAt, lockAt, wordAt, baseOf}
 use Rattle.engine.specs.declared.Engine.{Engine}
 use Rattle.engine.specs.declared.Places.{Places}
 
--- where the pieces of a step stand: of worker w at point p
+-- where a step's instruction stands, and its log entry, by its spot
+abbrev pub instrAt : Spot → ℕ
+instrAt t = baseOf (t .sheet % sheets) + t .next % instructions
+
+abbrev pub entryAt : Spot → ℕ
+entryAt t = baseOf (t .sheet % sheets) + t .place % instructions
+
+-- where the pieces of a step stand: of worker w, which is k, at a spot whose instruction is i
+abbrev pub placedOf : ℕ → Worker → Spot → Instr → Places
+placedOf w k t i =
+    record {
+      worker = w;
+      lock = k .lock % mostLocks;
+      word = wordOf i % mostWords;
+      entry = entryAt t;
+      instr = instrAt t;
+      sheet = t .sheet % sheets;
+    }
+
+-- of worker w at point p
 abbrev pub spotAt : Engine → ℕ → Point → Spot
 spotAt e w p = spotOf p (workerAt e w .own)
 
-abbrev pub sheetPlace : Engine → ℕ → Point → ℕ
-sheetPlace e w p = spotAt e w p .sheet % sheets
-
-abbrev pub instrPlace : Engine → ℕ → Point → ℕ
-instrPlace e w p = baseOf (sheetPlace e w p) + spotAt e w p .next % instructions
-
 unfoldable pub placesOf : Engine → ℕ → Point → Places
-placesOf e w p =
-    record {
-      worker = w;
-      lock = workerAt e w .lock % mostLocks;
-      word = wordOf (getD (e .program) (instrPlace e w p) instr0) % mostWords;
-      entry = baseOf (sheetPlace e w p) + spotAt e w p .place % instructions;
-      instr = instrPlace e w p;
-      sheet = sheetPlace e w p;
-    }
+placesOf e w p = placedOf w (workerAt e w) (spotAt e w p) (getD (e .program) (instrAt (spotAt e w p)) instr0)
 
 -- every place is one of its array
 pub record Within (at : Places) : Type 0 where

@@ -11,7 +11,7 @@ use parts::WORDS;
 use parts::Word;
 
 // A byte as a number.
-fn wide(x: u8) -> usize
+pub fn wide(x: u8) -> usize
     ensures { λ r. ⌜ r ≡ x ⌝ }
 {
     x as usize

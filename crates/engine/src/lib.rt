@@ -6,10 +6,10 @@ ghost use Rattle.parts.specs.Pick.{pick};
 ghost use Rattle.engine.specs.State.{blankOf};
 
 mod begin;
-mod fresh;
-mod read;
-mod step;
-mod write;
+pub mod fresh;
+pub mod read;
+pub mod step;
+pub mod write;
 
 use parts::Answer;
 use parts::ENTRIES;

@@ -1,14 +1,15 @@
 // Step: the pieces that a step can touch are read out of the state, the step is done to them, and they are put back.
 ghost use mathlib.Core.Path.{_≡_};
 ghost use Prim.Native.Nat.{_<_};
-ghost use Rattle.parts.specs.Numbers.{workers};
-ghost use Rattle.engine.specs.Step.{placesOf, viewAt, putAt, steppedOf, Within};
+ghost use Rattle.parts.specs.Numbers.{workers, entries};
+ghost use Rattle.engine.specs.Step.{instrAt, placedOf, placesOf, viewAt, putAt, steppedOf, Within};
 ghost use Rattle.engine.specs.Calls.{stepOf};
 use crate::Engine;
 use crate::Outcome;
 use crate::Places;
 use crate::Sheet;
 use parts::INSTRUCTIONS;
+use parts::Instr;
 use parts::LOCKS;
 use parts::Refusal;
 use parts::SHEETS;
@@ -16,8 +17,36 @@ use parts::Told;
 use parts::WORDS;
 use parts::WORKERS;
 use steps::Point;
+use steps::Spot;
 use steps::State;
 use steps::View;
+use steps::Worker;
+
+// Where the instruction of a step stands that is at this spot.
+pub fn instr_at(spot: Spot) -> usize
+    ensures { λ r. ⌜ (r ≡ instrAt spot) × (r < entries) ⌝ }
+{
+    let sheet = (spot.sheet as usize) % SHEETS;
+    sheet * INSTRUCTIONS + (spot.next as usize) % INSTRUCTIONS
+}
+
+// Where the pieces of a step stand: of worker w, which is k, at this spot, whose instruction is i.
+pub fn placed(w: usize, k: Worker, spot: Spot, i: Instr) -> Places
+    requires { ⌜ w < workers ⌝ }
+    ensures { λ r. ⌜ (r ≡ placedOf w k spot i) × Within r ⌝ }
+{
+    let sheet = (spot.sheet as usize) % SHEETS;
+    let instr = instr_at(spot);
+    let word = i.word();
+    Places {
+        worker: w,
+        lock: (k.lock as usize) % LOCKS,
+        word: (word as usize) % WORDS,
+        entry: sheet * INSTRUCTIONS + (spot.place as usize) % INSTRUCTIONS,
+        instr: instr,
+        sheet: sheet,
+    }
+}
 
 impl Engine {
     // Of worker w, which is at point p.
@@ -27,20 +56,10 @@ impl Engine {
         ensures { λ r. ⌜ Within r ⌝ }
     {
         let k = self.worker[w];
-        let s = p.spot(k.own);
-        let sheet = (s.sheet as usize) % SHEETS;
-        let instr = sheet * INSTRUCTIONS + (s.next as usize) % INSTRUCTIONS;
-        let entry = sheet * INSTRUCTIONS + (s.place as usize) % INSTRUCTIONS;
+        let spot = p.spot(k.own);
+        let instr = instr_at(spot);
         let i = self.program[instr];
-        let word = i.word();
-        Places {
-            worker: w,
-            lock: (k.lock as usize) % LOCKS,
-            word: (word as usize) % WORDS,
-            entry: entry,
-            instr: instr,
-            sheet: sheet,
-        }
+        placed(w, k, spot, i)
     }
 
     fn view(self, at: Places) -> View

@@ -28,7 +28,7 @@ use parts::WORDS;
 use parts::Word;
 
 // How many instructions a sheet has.
-fn instruction_count(n: u8) -> usize
+pub fn instruction_count(n: u8) -> usize
     ensures { λ r. ⌜ r ≡ n % (instructions + 1) ⌝ }
 {
     (n as usize) % (INSTRUCTIONS + 1)
@@ -47,7 +47,7 @@ fn put_program(program: [Instr; ENTRIES], base: usize, n: usize, buf: &mut [u8])
 }
 
 // The first six bytes of a setup record: its header, L and W.
-fn put_sizes(l: usize, w: usize, buf: &mut [u8])
+pub fn put_sizes(l: usize, w: usize, buf: &mut [u8])
     requires { ⌜ (l ≤ mostLocks) × (w ≤ mostWords) × (6 ≤ length (now buf)) ⌝ }
     ensures { λ _. ⌜ now (buf .exit) ≡ lay 0 (header (setupLength l w) setupKind (l ∷ w ∷ [])) (now (buf .entry)) ⌝ }
 {

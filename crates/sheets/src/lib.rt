@@ -24,7 +24,7 @@ fn mark(marks: &mut [bool; SHEETS], s: u8)
 }
 
 // Marks the sheet that is named, if one is.
-fn mark_holder(marks: &mut [bool; SHEETS], h: Holder)
+pub fn mark_holder(marks: &mut [bool; SHEETS], h: Holder)
     ensures { λ _. ⌜ now (marks .exit) ≡ holderMarks (now (marks .entry)) h ⌝ }
 {
     match h {
@@ -34,7 +34,7 @@ fn mark_holder(marks: &mut [bool; SHEETS], h: Holder)
 }
 
 // Marks what a worker under way has: its own sheet, and the one that it helps.
-fn mark_worker(marks: &mut [bool; SHEETS], k: Worker)
+pub fn mark_worker(marks: &mut [bool; SHEETS], k: Worker)
     ensures { λ _. ⌜ now (marks .exit) ≡ workerMarks (now (marks .entry)) k ⌝ }
 {
     let s = k.state;
@@ -102,7 +102,7 @@ pub fn free_sheet(locks: [LockWord; LOCKS], workers: [Worker; WORKERS]) -> u8
 }
 
 // The lowest that is not marked.
-fn lowest_unmarked(marks: [bool; SHEETS]) -> u8
+pub fn lowest_unmarked(marks: [bool; SHEETS]) -> u8
     ensures { λ r. ⌜ r ≡ lowestOf (markedOf marks) 0 sheets ⌝ }
 {
     let mut i: u8 = 0;

@@ -1,4 +1,4 @@
--- By what the callees ensure; every place is a remainder, or made of two.
+-- By what the callees ensure.
 use borrow.Author.Needs.{needs}
 use Rattle.engine.specs.Step.{placesOf}
 use Rattle.engine.proofs.Engine.places.Statement.{statement}
@@ -12,16 +12,8 @@ places-spec =
     (λ c. search needs)
     (λ c. search needs)
     (λ c κs. search needs)
-    (λ c. search needs)
-    (λ c. search needs)
-    (λ c. search needs)
-    (λ c. search needs)
-    (λ c. search needs)
-    (λ c. search needs)
-    (λ c. search needs)
-    (λ c. search needs)
-    (λ c. search needs)
     (λ c κs. search needs)
     (λ c. search needs)
     (λ c. search needs)
-    (λ c. (simp (c .before .word .ensures, c .before .before .before .before .before .before .spot .ensures), search needs)))
+    (λ c κs. search needs)
+    (λ c. (simp (c .placed .ensures .0, c .before .before .instr-at .ensures .0, c .before .before .before .spot .ensures), c .placed .ensures .1)))

@@ -1,0 +1,50 @@
+//! Finds out whether the by-value step can be timed. It can't be exported as
+//! it is, since an exported function may hold no enum. What the benchmark
+//! calls, where it is there, is
+//!
+//!     uint32_t by_value_steps(const uint8_t *setup, size_t setup_length,
+//!                             const uint8_t *job, size_t job_length,
+//!                             uint32_t workers,
+//!                             const uint8_t *order, size_t order_length);
+//!
+//! which sets up an engine by value, begins the job under lock 0 for each of
+//! the first so many workers, makes one step for each byte of the order, of
+//! the worker that it names, and tells how many steps were accepted. It is
+//! looked for in the engine's archive itself, and in the one that the
+//! environment variable BY_VALUE_ARCHIVE names by a whole path, or else
+//! target/staticlib/libby_value.a. Where it is in neither, the table has no
+//! column for it.
+
+use std::path::{Path, PathBuf};
+use std::{env, fs};
+
+const NAME: &[u8] = b"by_value_steps\0";
+
+fn main() {
+    let package = PathBuf::from(env::var_os("CARGO_MANIFEST_DIR").expect("cargo sets it"));
+    let made = package.join("../target/staticlib");
+    let archive = named("CHANTGARDEN_ARCHIVE", made.join("libchantgarden.a"));
+    let beside = named("BY_VALUE_ARCHIVE", made.join("libby_value.a"));
+    println!("cargo:rerun-if-changed=build.rs");
+    if has_name(&archive) {
+        println!("cargo:rustc-cfg=by_value");
+    } else if has_name(&beside) {
+        println!("cargo:rustc-cfg=by_value");
+        let folder = beside.parent().unwrap_or(&made).display();
+        let name = beside.file_name().unwrap_or_default().to_string_lossy();
+        println!("cargo:rustc-link-search=native={folder}");
+        println!("cargo:rustc-link-lib=static:+verbatim={name}");
+    }
+}
+
+fn named(variable: &str, made: PathBuf) -> PathBuf {
+    println!("cargo:rerun-if-env-changed={variable}");
+    let archive = env::var_os(variable).map_or(made, PathBuf::from);
+    println!("cargo:rerun-if-changed={}", archive.display());
+    archive
+}
+
+fn has_name(archive: &Path) -> bool {
+    let bytes = fs::read(archive).unwrap_or_default();
+    bytes.windows(NAME.len()).any(|part| part == NAME)
+}

@@ -1,0 +1,4 @@
+pub mod Pieces
+pub mod Back
+pub mod Unpack
+pub mod Laws

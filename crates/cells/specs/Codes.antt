@@ -1,0 +1,196 @@
+-- What the numbers of each piece say, whatever they are, and the numbers that are written for it. A byte is a number's remainder
+-- by 256, a flag is "not 0".
+use Prim.Native.Nat.{ℕ, _+_, _-_, _*_, _/_, _%_, _<_}
+use mathlib.Core.Bool.{Bool}
+use mathlib.Core.List.{List, [], _∷_}
+use lib.Dec.{eqb}
+use lib.ListN.{getD}
+use Rattle.parts.specs.Parts.{registers0}
+use Rattle.parts.specs.Pick.{pick, _isnt_}
+use Rattle.parts.specs.Told.{answerNumber}
+use Rattle.parts.specs.declared.Answer.the-variants.{RanYes, RanNo, NotTaken}
+use Rattle.parts.specs.declared.Answer.{Answer}
+use Rattle.parts.specs.declared.Entry.{Entry}
+use Rattle.parts.specs.declared.Holder.{Holder}
+use Rattle.parts.specs.declared.Instr.{Instr}
+use Rattle.parts.specs.declared.LockWord.{LockWord}
+use Rattle.parts.specs.declared.Reading.{Reading}
+use Rattle.parts.specs.declared.Registers.{Registers}
+use Rattle.parts.specs.declared.Slot.the-variants.{Empty, Filled}
+use Rattle.parts.specs.declared.Slot.{Slot}
+use Rattle.parts.specs.declared.Word.{Word}
+use Rattle.steps.specs.declared.Point.the-variants.{Look, Grab, LookAgain, ReadMark, Read, Commit, Swap, Mark, Release}
+use Rattle.steps.specs.declared.Point.{Point}
+use Rattle.steps.specs.declared.Run.{Run}
+use Rattle.steps.specs.declared.State.the-variants.{Idle, UnderWay, Finished}
+use Rattle.steps.specs.declared.State.{State}
+use Rattle.steps.specs.declared.Worker.{Worker}
+use Rattle.engine.specs.declared.Sheet.{Sheet}
+
+abbrev pub byteOf : ℕ → ℕ
+byteOf x = x % 256
+
+abbrev pub flagOf : ℕ → Bool
+flagOf x = x isnt 0
+
+abbrev pub flagNumber : Bool → ℕ
+flagNumber b = pick b 1 0
+
+-- 0: free; s + 1: held by sheet s
+abbrev pub holderOf : ℕ → Holder
+holderOf x = pick (eqb x 0) Holder.Free (Holder.Sheet (byteOf (x - 1)))
+
+abbrev pub holderNumber : Holder → ℕ
+holderNumber Holder.Free = 0
+holderNumber (Holder.Sheet s) = s + 1
+
+-- turn, holder
+abbrev pub lockWordOf : ℕ → ℕ → LockWord
+lockWordOf turn holder = record { turn = turn; holder = holderOf holder }
+
+abbrev pub lockOf : List ℕ → LockWord
+lockOf l = lockWordOf (getD l 0 0) (getD l 1 0)
+
+abbrev pub lockNumbers : LockWord → List ℕ
+lockNumbers x = x .turn ∷ holderNumber (x .holder) ∷ []
+
+-- value, count, guard
+abbrev pub wordOf : List ℕ → Word
+wordOf l = record { value = getD l 0 0; count = getD l 1 0; guard = byteOf (getD l 2 0) }
+
+abbrev pub wordNumbers : Word → List ℕ
+wordNumbers x = x .value ∷ x .count ∷ x .guard ∷ []
+
+-- length, done
+abbrev pub sheetOf : List ℕ → Sheet
+sheetOf l = record { length = byteOf (getD l 0 0); done = flagOf (getD l 1 0) }
+
+abbrev pub sheetNumbers : Sheet → List ℕ
+sheetNumbers x = x .length ∷ flagNumber (x .done) ∷ []
+
+-- the four bytes of an instruction in one number
+abbrev pub instrIn : ℕ → Instr
+instrIn x =
+    record { op = byteOf x; a = byteOf (x / 256); b = byteOf (x / 65536); c = byteOf (x / 16777216) }
+
+abbrev pub instrNumber : Instr → ℕ
+instrNumber x = x .op + 256 * x .a + 65536 * x .b + 16777216 * x .c
+
+abbrev pub instrOf : List ℕ → Instr
+instrOf l = instrIn (getD l 0 0)
+
+abbrev pub instrNumbers : Instr → List ℕ
+instrNumbers x = instrNumber x ∷ []
+
+-- 0: empty, 1: filled; value, count
+abbrev pub slotOf : ℕ → ℕ → ℕ → Slot
+slotOf filled value count = pick (eqb filled 0) Empty (Filled (record { value = value; count = count }))
+
+abbrev pub slotNumbers : Slot → List ℕ
+slotNumbers Empty = 0 ∷ 0 ∷ 0 ∷ []
+slotNumbers (Filled r) = 1 ∷ r .value ∷ r .count ∷ []
+
+abbrev pub entryOf : List ℕ → Entry
+entryOf l = record { slot = slotOf (getD l 0 0) (getD l 1 0) (getD l 2 0) }
+
+abbrev pub entryNumbers : Entry → List ℕ
+entryNumbers x = slotNumbers (x .slot)
+
+-- A worker's numbers: tag, lock, own, steps, sheet, won, next, place, r0, r1, r2, r3, value, count, new
+abbrev pub registersOf : List ℕ → Registers
+registersOf l = record { r0 = getD l 8 0; r1 = getD l 9 0; r2 = getD l 10 0; r3 = getD l 11 0 }
+
+abbrev pub runOf : List ℕ → Run
+runOf l =
+    record {
+      sheet = byteOf (getD l 4 0);
+      won = getD l 5 0;
+      next = byteOf (getD l 6 0);
+      place = byteOf (getD l 7 0);
+      registers = registersOf l;
+    }
+
+abbrev pub readOf : List ℕ → Reading
+readOf l = record { value = getD l 12 0; count = getD l 13 0 }
+
+-- the answers' numbers; any other number says not taken
+unfoldable pub answerOf : ℕ → Answer
+answerOf x = pick (eqb x 1) RanYes (pick (eqb x 2) RanNo NotTaken)
+
+-- by the tag; any other than 0 to 9 says finished
+unfoldable pub stateOf : List ℕ → State
+stateOf l =
+    pick (eqb (getD l 0 0) 0) Idle
+    (pick (eqb (getD l 0 0) 1) (UnderWay Look)
+    (pick (eqb (getD l 0 0) 2) (UnderWay (Grab (getD l 5 0)))
+    (pick (eqb (getD l 0 0) 3) (UnderWay (LookAgain (getD l 5 0)))
+    (pick (eqb (getD l 0 0) 4) (UnderWay (ReadMark (lockWordOf (getD l 12 0) (getD l 4 0)) (getD l 5 0)))
+    (pick (eqb (getD l 0 0) 5) (UnderWay (Read (runOf l)))
+    (pick (eqb (getD l 0 0) 6) (UnderWay (Commit (runOf l) (readOf l)))
+    (pick (eqb (getD l 0 0) 7) (UnderWay (Swap (runOf l) (readOf l) (getD l 14 0)))
+    (pick (eqb (getD l 0 0) 8) (UnderWay (Mark (runOf l) (flagOf (getD l 14 0))))
+    (pick (eqb (getD l 0 0) 9) (UnderWay (Release (runOf l) (flagOf (getD l 14 0))))
+    (Finished (answerOf (getD l 14 0))))))))))))
+
+abbrev pub workerOf : List ℕ → Worker
+workerOf l =
+    record { state = stateOf l; lock = byteOf (getD l 1 0); own = byteOf (getD l 2 0); steps = getD l 3 0 }
+
+abbrev pub runNumbers : Worker → ℕ → Run → ℕ → ℕ → ℕ → List ℕ
+runNumbers k tag r value count new =
+    tag ∷ k .lock ∷ k .own ∷ k .steps ∷ r .sheet ∷ r .won ∷ r .next ∷ r .place ∷ r .registers .r0 ∷ r .registers .r1 ∷
+    r .registers .r2 ∷ r .registers .r3 ∷ value ∷ count ∷ new ∷ []
+
+-- of a worker that is in no run
+abbrev pub seenNumbers : Worker → ℕ → ℕ → ℕ → ℕ → ℕ → List ℕ
+seenNumbers k tag sheet won value new =
+    runNumbers k tag (record { sheet = sheet; won = won; next = 0; place = 0; registers = registers0 }) value 0 new
+
+abbrev pub pointNumbers : Point → Worker → List ℕ
+pointNumbers Look k = seenNumbers k 1 0 0 0 0
+pointNumbers (Grab won) k = seenNumbers k 2 0 won 0 0
+pointNumbers (LookAgain won) k = seenNumbers k 3 0 won 0 0
+pointNumbers (ReadMark l won) k = seenNumbers k 4 (holderNumber (l .holder)) won (l .turn) 0
+pointNumbers (Read r) k = runNumbers k 5 r 0 0 0
+pointNumbers (Commit r x) k = runNumbers k 6 r (x .value) (x .count) 0
+pointNumbers (Swap r x new) k = runNumbers k 7 r (x .value) (x .count) new
+pointNumbers (Mark r b) k = runNumbers k 8 r 0 0 (flagNumber b)
+pointNumbers (Release r b) k = runNumbers k 9 r 0 0 (flagNumber b)
+
+abbrev pub stateNumbers : State → Worker → List ℕ
+stateNumbers Idle k = seenNumbers k 0 0 0 0 0
+stateNumbers (UnderWay p) k = pointNumbers p k
+stateNumbers (Finished a) k = seenNumbers k 10 0 0 0 (answerNumber a)
+
+unfoldable pub workerNumbers : Worker → List ℕ
+workerNumbers k = stateNumbers (k .state) k
+
+-- The bytes of a piece are bytes: a function that takes the piece by value knows it.
+abbrev pub HolderFits : Holder → Type 0
+HolderFits Holder.Free = Unit {0}
+HolderFits (Holder.Sheet s) = s < 256
+
+pub record TryFits (k : Worker) : Type 0 where
+  pub lock : k .lock < 256
+  pub own : k .own < 256
+
+pub record RunFits (r : Run) : Type 0 where
+  pub sheet : r .sheet < 256
+  pub next : r .next < 256
+  pub place : r .place < 256
+
+abbrev pub PointFits : Point → Type 0
+PointFits Look = Unit {0}
+PointFits (Grab won) = Unit {0}
+PointFits (LookAgain won) = Unit {0}
+PointFits (ReadMark l won) = HolderFits (l .holder)
+PointFits (Read r) = RunFits r
+PointFits (Commit r x) = RunFits r
+PointFits (Swap r x new) = RunFits r
+PointFits (Mark r b) = RunFits r
+PointFits (Release r b) = RunFits r
+
+abbrev pub StateFits : State → Type 0
+StateFits Idle = Unit {0}
+StateFits (UnderWay p) = PointFits p
+StateFits (Finished a) = Unit {0}

@@ -1,0 +1,4 @@
+pub mod Pieces
+pub mod Codes
+pub mod Layout
+pub mod State

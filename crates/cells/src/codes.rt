@@ -1,0 +1,130 @@
+// What the numbers of a piece say, and the numbers that are written for it: each function is the definition of specs/Codes.antt
+// that has its name.
+ghost use mathlib.Core.Path.{_≡_};
+ghost use Prim.Native.Nat.{_+_, _≤_};
+ghost use lib.ListN.{length};
+ghost use Rattle.parts.specs.Lay.{lay};
+ghost use Rattle.cells.specs.Codes.{byteOf, flagOf, flagNumber, holderOf, holderNumber, lockWordOf, instrIn, instrNumber, slotOf, slotNumbers, answerOf, HolderFits};
+use parts::Answer;
+use parts::Holder;
+use parts::Instr;
+use parts::LockWord;
+use parts::Reading;
+use parts::Slot;
+
+// Numbers over those from `at` on.
+pub fn write(s: &mut [u32], at: usize, n: &[u32])
+    requires { ⌜ at + length (now n) ≤ length (now s) ⌝ }
+    ensures { λ _. ⌜ now (s .exit) ≡ lay at (now (n .entry)) (now (s .entry)) ⌝ }
+{
+    let mut j: usize = 0;
+    while j < n.len() {
+        s[at + j] = n[j];
+        j += 1;
+    }
+}
+
+pub fn byte(x: u32) -> u8
+    ensures { λ r. ⌜ r ≡ byteOf x ⌝ }
+{
+    (x % 256) as u8
+}
+
+pub fn flag(x: u32) -> bool
+    ensures { λ r. ⌜ r ≡ flagOf x ⌝ }
+{
+    if x == 0 {
+        return false;
+    }
+    true
+}
+
+pub fn flag_number(b: bool) -> u32
+    ensures { λ r. ⌜ r ≡ flagNumber b ⌝ }
+{
+    if b {
+        return 1;
+    }
+    0
+}
+
+pub fn holder_of(x: u32) -> Holder
+    ensures { λ r. ⌜ r ≡ holderOf x ⌝ }
+{
+    if x == 0 {
+        return Holder::Free;
+    }
+    let s = byte(x - 1);
+    Holder::Sheet(s)
+}
+
+pub fn holder_number(h: Holder) -> u32
+    ensures { λ r. ⌜ (r ≡ holderNumber h) × HolderFits h ⌝ }
+{
+    match h {
+        Holder::Free => 0,
+        Holder::Sheet(s) => (s as u32) + 1,
+    }
+}
+
+pub fn lock_of(turn: u32, holder: u32) -> LockWord
+    ensures { λ r. ⌜ r ≡ lockWordOf turn holder ⌝ }
+{
+    let h = holder_of(holder);
+    LockWord {
+        turn: turn,
+        holder: h,
+    }
+}
+
+pub fn instr_in(x: u32) -> Instr
+    ensures { λ r. ⌜ r ≡ instrIn x ⌝ }
+{
+    let op = byte(x);
+    let a = byte(x / 256);
+    let b = byte(x / 65536);
+    let c = byte(x / 16777216);
+    Instr {
+        op: op,
+        a: a,
+        b: b,
+        c: c,
+    }
+}
+
+pub fn instr_number(x: Instr) -> u32
+    ensures { λ r. ⌜ (r ≡ instrNumber x) × (instrIn (instrNumber x) ≡ x) ⌝ }
+{
+    x.op as u32 + 256 * (x.a as u32) + 65536 * (x.b as u32) + 16777216 * (x.c as u32)
+}
+
+pub fn slot_of(filled: u32, value: u32, count: u32) -> Slot
+    ensures { λ r. ⌜ r ≡ slotOf filled value count ⌝ }
+{
+    if filled == 0 {
+        return Slot::Empty;
+    }
+    Slot::Filled(Reading {
+        value: value,
+        count: count,
+    })
+}
+
+pub fn slot_numbers(x: Slot) -> [u32; 3]
+    ensures { λ r. ⌜ r ≡ slotNumbers x ⌝ }
+{
+    match x {
+        Slot::Empty => [0, 0, 0],
+        Slot::Filled(r) => [1, r.value, r.count],
+    }
+}
+
+pub fn answer_of(x: u32) -> Answer
+    ensures { λ r. ⌜ r ≡ answerOf x ⌝ }
+{
+    match x {
+        1 => Answer::RanYes,
+        2 => Answer::RanNo,
+        _ => Answer::NotTaken,
+    }
+}

@@ -1,0 +1,18 @@
+-- Too few numbers: 22, and the buffer stays. Else what the writer ensures, and its reply.
+use borrow.Author.Needs.{needs}
+use Rattle.door.specs.Door.{noBytes, wroteOf}
+use Rattle.door.proofs.Laws.{if-short, if-short-by, if-enough, if-enough-by}
+use Rattle.door.proofs.chant_show.Statement.{statement}
+use Rattle.door.proofs.chant_show.Tie as tie
+
+pub chant-show-spec : {M : Type 1} → statement M
+chant-show-spec =
+    tie.close
+    (tie.spec
+    (λ c κs. search needs)
+    (λ c κs. search needs)
+    (λ c. search (if-short-by noBytes, if-short))
+    (λ c κs. search needs)
+    (λ c κs. search needs)
+    (λ c. search needs)
+    (λ c. search (if-enough-by wroteOf, if-enough)))

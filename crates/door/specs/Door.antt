@@ -1,0 +1,72 @@
+-- What the C interface tells: document 01's numbers and places, and 0 where a field has nothing to tell.
+use Prim.Native.Nat.{ℕ, _%_, _^_}
+use mathlib.Core.List.{List}
+use lib.Dec.{ltb}
+use lib.ListN.{length}
+use Rattle.parts.specs.Pick.{pick, onHolder}
+use Rattle.parts.specs.Told.{answerNumber, refusalNumber, refusalPlace}
+use Rattle.parts.specs.declared.LockWord.{LockWord}
+use Rattle.parts.specs.declared.Refusal.{Refusal}
+use Rattle.parts.specs.declared.Told.{Told}
+use Rattle.cells.specs.Layout.{numbers}
+use Rattle.engine.specs.declared.CollectTold.{CollectTold}
+use Rattle.engine.specs.declared.LockTold.{LockTold}
+use Rattle.engine.specs.declared.WordTold.{WordTold}
+use Rattle.engine.specs.declared.WriteTold.{WriteTold}
+use Rattle.door.specs.declared.Collected.{Collected}
+use Rattle.door.specs.declared.LockRead.{LockRead}
+use Rattle.door.specs.declared.Reply.{Reply}
+use Rattle.door.specs.declared.WordRead.{WordRead}
+use Rattle.door.specs.declared.Wrote.{Wrote}
+
+-- "Fewer numbers than the layout has: refusal 22, place 0": the first then, else the second
+abbrev pub unlessShort : {A : Type 0} → List ℕ → A → A → A
+unlessShort s short x = pick (ltb (length s) numbers) short x
+
+abbrev pub shortReply : Reply
+shortReply = record { number = 22; place = 0 }
+
+-- a refusal's number and place, the place in 32 bits
+unfoldable pub refusalReply : Refusal → Reply
+refusalReply r = record { number = refusalNumber r; place = refusalPlace r % 2 ^ 32 }
+
+-- number 0 says accepted
+abbrev pub replyOf : Told → Reply
+replyOf Told.Accepted = record { number = 0; place = 0 }
+replyOf (Told.Refused r) = refusalReply r
+
+-- where the call was refused so, there is nothing else to tell
+abbrev pub noAnswer : Reply → Collected
+noAnswer r = record { number = r .number; place = r .place; answer = 0; steps = 0 }
+
+abbrev pub collectedOf : CollectTold → Collected
+collectedOf (CollectTold.Answered x n) = record { number = 0; place = 0; answer = answerNumber x; steps = n }
+collectedOf (CollectTold.Refused r) = noAnswer (refusalReply r)
+
+abbrev pub noWord : Reply → WordRead
+noWord r = record { number = r .number; place = r .place; value = 0; count = 0; guard = 0 }
+
+abbrev pub wordOf : WordTold → WordRead
+wordOf (WordTold.Is w) = record { number = 0; place = 0; value = w .value; count = w .count; guard = w .guard }
+wordOf (WordTold.Refused r) = noWord (refusalReply r)
+
+abbrev pub noLock : Reply → LockRead
+noLock r = record { number = r .number; place = r .place; turn = 0; held = 0; sheet = 0 }
+
+-- held 0: free; held 1: by the sheet
+abbrev pub lockFields : LockWord → LockRead
+lockFields l =
+    onHolder (l .holder) (record { number = 0; place = 0; turn = l .turn; held = 0; sheet = 0 })
+    (λ s. record { number = 0; place = 0; turn = l .turn; held = 1; sheet = s })
+
+abbrev pub lockOf : LockTold → LockRead
+lockOf (LockTold.Is l) = lockFields l
+lockOf (LockTold.Refused r) = noLock (refusalReply r)
+
+abbrev pub noBytes : Reply → Wrote
+noBytes r = record { number = r .number; place = r .place; length = 0 }
+
+-- how many bytes, in 32 bits
+abbrev pub wroteOf : WriteTold → Wrote
+wroteOf (WriteTold.Wrote n) = record { number = 0; place = 0; length = n % 2 ^ 32 }
+wroteOf (WriteTold.Refused r) = noBytes (refusalReply r)

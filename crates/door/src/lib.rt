@@ -1,0 +1,173 @@
+// What C can call: the nine calls on numbers that the caller lends. A reply's number 0 says accepted; any other is a refusal's,
+// with its place. Fewer numbers than a state takes: 22, and nothing is changed.
+ghost use mathlib.Core.Path.{_≡_};
+ghost use Prim.Native.Nat.{_≤_};
+ghost use lib.ListN.{length};
+ghost use Rattle.engine.specs.Calls.{setupOf, beginOf, stepOf, collectOf, dropOf, readWordOf, readLockOf, showOf, shownOf, parkOf, parkedOf};
+ghost use Rattle.cells.specs.Layout.{numbers, unpack};
+ghost use Rattle.lent.specs.Calls.{stepNumbers, collectNumbers, dropNumbers};
+ghost use Rattle.lent_in.specs.Calls.{setupNumbers, beginNumbers};
+ghost use Rattle.door.specs.Door.{unlessShort, shortReply, replyOf, noAnswer, collectedOf, noWord, wordOf, noLock, lockOf, noBytes, wroteOf};
+
+mod replies;
+
+use cells::NUMBERS;
+
+#[repr(C)]
+pub struct Reply {
+    pub number: u32,
+    pub place: u32,
+}
+
+#[repr(C)]
+pub struct Collected {
+    pub number: u32,
+    pub place: u32,
+    pub answer: u32,
+    pub steps: u32,
+}
+
+#[repr(C)]
+pub struct WordRead {
+    pub number: u32,
+    pub place: u32,
+    pub value: u32,
+    pub count: u32,
+    pub guard: u32,
+}
+
+#[repr(C)]
+pub struct LockRead {
+    pub number: u32,
+    pub place: u32,
+    pub turn: u32,
+    pub held: u32,
+    pub sheet: u32,
+}
+
+#[repr(C)]
+pub struct Wrote {
+    pub number: u32,
+    pub place: u32,
+    pub length: u32,
+}
+
+// A fresh state from a setup record; a refused one gives the blank state. Refused: 22, 5, 6, 12.
+#[no_mangle]
+pub extern "C" fn chant_setup(state: &mut [u32], rec: &[u8]) -> Reply
+    ensures { λ r. ⌜ r ≡ unlessShort (now (state .entry)) shortReply (replyOf (setupOf (now (rec .entry)) .told)) ⌝ }
+    ensures { λ _. ⌜ now (state .exit) ≡ unlessShort (now (state .entry)) (now (state .entry)) (setupNumbers (now (state .entry)) (now (rec .entry))) ⌝ }
+    ensures { λ _. ⌜ (numbers ≤ length (now (state .entry)) → unpack (now (state .exit)) ≡ setupOf (now (rec .entry)) .engine) ⌝ }
+{
+    if state.len() < NUMBERS {
+        return replies::short();
+    }
+    let told = lent_in::setup(state, rec);
+    replies::reply(told)
+}
+
+// A worker takes a job for a lock. Refused: 22, 1, 3, 4, 2, 5, 6, 7, 8, 9, 10.
+#[no_mangle]
+pub extern "C" fn chant_begin(state: &mut [u32], worker: u32, lock: u32, rec: &[u8]) -> Reply
+    ensures { λ r. ⌜ r ≡ unlessShort (now (state .entry)) shortReply (replyOf (beginOf (unpack (now (state .entry))) worker lock (now (rec .entry)) .told)) ⌝ }
+    ensures { λ _. ⌜ now (state .exit) ≡ unlessShort (now (state .entry)) (now (state .entry)) (beginNumbers (now (state .entry)) worker lock (now (rec .entry))) ⌝ }
+    ensures { λ _. ⌜ (numbers ≤ length (now (state .entry)) → unpack (now (state .exit)) ≡ beginOf (unpack (now (state .entry))) worker lock (now (rec .entry)) .engine) ⌝ }
+{
+    if state.len() < NUMBERS {
+        return replies::short();
+    }
+    let told = lent_in::begin(state, worker, lock, rec);
+    replies::reply(told)
+}
+
+// One step of a worker's try. Refused: 22, 1, 11, 4.
+#[no_mangle]
+pub extern "C" fn chant_step(state: &mut [u32], worker: u32) -> Reply
+    ensures { λ r. ⌜ r ≡ unlessShort (now (state .entry)) shortReply (replyOf (stepOf (unpack (now (state .entry))) worker .told)) ⌝ }
+    ensures { λ _. ⌜ now (state .exit) ≡ unlessShort (now (state .entry)) (now (state .entry)) (stepNumbers (now (state .entry)) worker) ⌝ }
+    ensures { λ _. ⌜ (numbers ≤ length (now (state .entry)) → unpack (now (state .exit)) ≡ stepOf (unpack (now (state .entry))) worker .engine) ⌝ }
+{
+    if state.len() < NUMBERS {
+        return replies::short();
+    }
+    let told = lent::step::step(state, worker);
+    replies::reply(told)
+}
+
+// The answer of a finished worker and its steps; the worker is idle. Refused: 22, 1, 11, 3.
+#[no_mangle]
+pub extern "C" fn chant_collect(state: &mut [u32], worker: u32) -> Collected
+    ensures { λ r. ⌜ r ≡ unlessShort (now (state .entry)) (noAnswer shortReply) (collectedOf (collectOf (unpack (now (state .entry))) worker .told)) ⌝ }
+    ensures { λ _. ⌜ now (state .exit) ≡ unlessShort (now (state .entry)) (now (state .entry)) (collectNumbers (now (state .entry)) worker) ⌝ }
+    ensures { λ _. ⌜ (numbers ≤ length (now (state .entry)) → unpack (now (state .exit)) ≡ collectOf (unpack (now (state .entry))) worker .engine) ⌝ }
+{
+    if state.len() < NUMBERS {
+        return replies::no_answer(replies::short());
+    }
+    let told = lent::read::collect(state, worker);
+    replies::collected(told)
+}
+
+// The worker is idle; a held lock stays held. Refused: 22, 1, 11.
+#[no_mangle]
+pub extern "C" fn chant_drop(state: &mut [u32], worker: u32) -> Reply
+    ensures { λ r. ⌜ r ≡ unlessShort (now (state .entry)) shortReply (replyOf (dropOf (unpack (now (state .entry))) worker .told)) ⌝ }
+    ensures { λ _. ⌜ now (state .exit) ≡ unlessShort (now (state .entry)) (now (state .entry)) (dropNumbers (now (state .entry)) worker) ⌝ }
+    ensures { λ _. ⌜ (numbers ≤ length (now (state .entry)) → unpack (now (state .exit)) ≡ dropOf (unpack (now (state .entry))) worker .engine) ⌝ }
+{
+    if state.len() < NUMBERS {
+        return replies::short();
+    }
+    let told = lent::read::drop(state, worker);
+    replies::reply(told)
+}
+
+// A word's value, count and guard. Refused: 22, 16.
+#[no_mangle]
+pub extern "C" fn chant_read_word(state: &[u32], word: u32) -> WordRead
+    ensures { λ r. ⌜ r ≡ unlessShort (now (state .entry)) (noWord shortReply) (wordOf (readWordOf (unpack (now (state .entry))) word)) ⌝ }
+{
+    if state.len() < NUMBERS {
+        return replies::no_word(replies::short());
+    }
+    let told = lent::read::read_word(state, word);
+    replies::word_read(told)
+}
+
+// A lock's turn and the sheet that holds it, if any. Refused: 22, 2.
+#[no_mangle]
+pub extern "C" fn chant_read_lock(state: &[u32], lock: u32) -> LockRead
+    ensures { λ r. ⌜ r ≡ unlessShort (now (state .entry)) (noLock shortReply) (lockOf (readLockOf (unpack (now (state .entry))) lock)) ⌝ }
+{
+    if state.len() < NUMBERS {
+        return replies::no_lock(replies::short());
+    }
+    let told = lent::read::read_lock(state, lock);
+    replies::lock_read(told)
+}
+
+// The job record of a sheet in use. Refused: 22, 14, 13.
+#[no_mangle]
+pub extern "C" fn chant_show(state: &[u32], sheet: u32, buffer: &mut [u8]) -> Wrote
+    ensures { λ r. ⌜ r ≡ unlessShort (now (state .entry)) (noBytes shortReply) (wroteOf (showOf (unpack (now (state .entry))) sheet (length (now (buffer .entry))))) ⌝ }
+    ensures { λ _. ⌜ now (buffer .exit) ≡ unlessShort (now (state .entry)) (now (buffer .entry)) (shownOf (unpack (now (state .entry))) sheet (now (buffer .entry))) ⌝ }
+{
+    if state.len() < NUMBERS {
+        return replies::no_bytes(replies::short());
+    }
+    let told = lent_out::show(state, sheet, buffer);
+    replies::wrote(told)
+}
+
+// The setup record of the present values and turns. Refused: 22, 12, 15, 13.
+#[no_mangle]
+pub extern "C" fn chant_park(state: &[u32], buffer: &mut [u8]) -> Wrote
+    ensures { λ r. ⌜ r ≡ unlessShort (now (state .entry)) (noBytes shortReply) (wroteOf (parkOf (unpack (now (state .entry))) (length (now (buffer .entry))))) ⌝ }
+    ensures { λ _. ⌜ now (buffer .exit) ≡ unlessShort (now (state .entry)) (now (buffer .entry)) (parkedOf (unpack (now (state .entry))) (now (buffer .entry))) ⌝ }
+{
+    if state.len() < NUMBERS {
+        return replies::no_bytes(replies::short());
+    }
+    let told = lent_out::park(state, buffer);
+    replies::wrote(told)
+}

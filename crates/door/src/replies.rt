@@ -1,0 +1,167 @@
+// What a call told, as the numbers of a reply: each function is the definition of specs/Door.antt that has its name.
+ghost use mathlib.Core.Path.{_≡_};
+ghost use Rattle.door.specs.Door.{shortReply, refusalReply, replyOf, noAnswer, collectedOf, noWord, wordOf, noLock, lockFields, lockOf, noBytes, wroteOf};
+use crate::Collected;
+use crate::LockRead;
+use crate::Reply;
+use crate::WordRead;
+use crate::Wrote;
+use engine::CollectTold;
+use engine::LockTold;
+use engine::WordTold;
+use engine::WriteTold;
+use parts::Holder;
+use parts::LockWord;
+use parts::Refusal;
+use parts::Told;
+
+// Fewer numbers than a state takes.
+pub fn short() -> Reply
+    ensures { λ r. ⌜ r ≡ shortReply ⌝ }
+{
+    Reply {
+        number: 22,
+        place: 0,
+    }
+}
+
+fn refusal_reply(r: Refusal) -> Reply
+    ensures { λ q. ⌜ q ≡ refusalReply r ⌝ }
+{
+    let number = r.number();
+    let place = r.place();
+    Reply {
+        number: number,
+        place: (place % 4294967296) as u32,
+    }
+}
+
+pub fn reply(told: Told) -> Reply
+    ensures { λ r. ⌜ r ≡ replyOf told ⌝ }
+{
+    match told {
+        Told::Accepted => Reply {
+            number: 0,
+            place: 0,
+        },
+        Told::Refused(r) => refusal_reply(r),
+    }
+}
+
+pub fn no_answer(r: Reply) -> Collected
+    ensures { λ q. ⌜ q ≡ noAnswer r ⌝ }
+{
+    Collected {
+        number: r.number,
+        place: r.place,
+        answer: 0,
+        steps: 0,
+    }
+}
+
+pub fn collected(told: CollectTold) -> Collected
+    ensures { λ r. ⌜ r ≡ collectedOf told ⌝ }
+{
+    match told {
+        CollectTold::Answered(answer, steps) => Collected {
+            number: 0,
+            place: 0,
+            answer: answer.number(),
+            steps: steps,
+        },
+        CollectTold::Refused(r) => no_answer(refusal_reply(r)),
+    }
+}
+
+pub fn no_word(r: Reply) -> WordRead
+    ensures { λ q. ⌜ q ≡ noWord r ⌝ }
+{
+    WordRead {
+        number: r.number,
+        place: r.place,
+        value: 0,
+        count: 0,
+        guard: 0,
+    }
+}
+
+pub fn word_read(told: WordTold) -> WordRead
+    ensures { λ r. ⌜ r ≡ wordOf told ⌝ }
+{
+    match told {
+        WordTold::Is(w) => WordRead {
+            number: 0,
+            place: 0,
+            value: w.value,
+            count: w.count,
+            guard: w.guard as u32,
+        },
+        WordTold::Refused(r) => no_word(refusal_reply(r)),
+    }
+}
+
+pub fn no_lock(r: Reply) -> LockRead
+    ensures { λ q. ⌜ q ≡ noLock r ⌝ }
+{
+    LockRead {
+        number: r.number,
+        place: r.place,
+        turn: 0,
+        held: 0,
+        sheet: 0,
+    }
+}
+
+fn lock_fields(l: LockWord) -> LockRead
+    ensures { λ r. ⌜ r ≡ lockFields l ⌝ }
+{
+    let holder = l.holder;
+    match holder {
+        Holder::Free => LockRead {
+            number: 0,
+            place: 0,
+            turn: l.turn,
+            held: 0,
+            sheet: 0,
+        },
+        Holder::Sheet(s) => LockRead {
+            number: 0,
+            place: 0,
+            turn: l.turn,
+            held: 1,
+            sheet: s as u32,
+        },
+    }
+}
+
+pub fn lock_read(told: LockTold) -> LockRead
+    ensures { λ r. ⌜ r ≡ lockOf told ⌝ }
+{
+    match told {
+        LockTold::Is(l) => lock_fields(l),
+        LockTold::Refused(r) => no_lock(refusal_reply(r)),
+    }
+}
+
+pub fn no_bytes(r: Reply) -> Wrote
+    ensures { λ q. ⌜ q ≡ noBytes r ⌝ }
+{
+    Wrote {
+        number: r.number,
+        place: r.place,
+        length: 0,
+    }
+}
+
+pub fn wrote(told: WriteTold) -> Wrote
+    ensures { λ r. ⌜ r ≡ wroteOf told ⌝ }
+{
+    match told {
+        WriteTold::Wrote(n) => Wrote {
+            number: 0,
+            place: 0,
+            length: (n % 4294967296) as u32,
+        },
+        WriteTold::Refused(r) => no_bytes(refusal_reply(r)),
+    }
+}

@@ -1,0 +1,27 @@
+-- Each way that refuses tells the first row of the order that refuses; the others are accepted, by what the callees ensure.
+use borrow.Author.Needs.{needs}
+use Rattle.parts.specs.declared.Refusal.the-variants.{NoWorker, WorkerIdle, WorkerUnderWay}
+use Rattle.steps.specs.Worker as worker
+use Rattle.parts.proofs.Laws.{laws, order}
+use Rattle.lent.proofs.Laws.{collect-refused, collect-done, states}
+use Rattle.lent.proofs.read.collect.Statement.{statement}
+use Rattle.lent.proofs.read.collect.Tie as tie
+
+pub collect-spec : {M : Type 1} → statement M
+unfolding worker.collectTold
+collect-spec =
+    tie.close
+    (tie.spec
+    (λ c. collect-refused NoWorker _ _ (search (order, laws, states) depth 8))
+    (λ c κs. search needs)
+    (λ c. search needs)
+    (λ c. search needs)
+    (λ c. search needs)
+    (λ c κs. search needs)
+    (λ c κs. search needs)
+    (λ c. search needs)
+    (λ c. collect-refused WorkerIdle _ _ (search (order, laws, states) depth 8))
+    (λ c. search needs)
+    (λ c. collect-refused WorkerUnderWay _ _ (search (order, laws, states) depth 8))
+    (λ c. search needs)
+    (λ c. collect-done _ _ _ _ _ _ (search needs) (search needs) (search needs) (c .before .before .before .before .collect .ensures) (c .before .before .put-worker .ensures .0) (c .before .before .put-worker .ensures .1)))

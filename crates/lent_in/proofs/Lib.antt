@@ -1,0 +1,3 @@
+pub mod Loops
+pub mod Filled
+pub mod Begins

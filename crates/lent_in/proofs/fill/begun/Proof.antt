@@ -1,0 +1,24 @@
+-- By what the callees ensure; the job's length is a quarter of its bytes'.
+use borrow.Author.Needs.{needs}
+use mathlib.Core.Path.{refl}
+use Rattle.lent_in.proofs.Begins.{begun-by}
+use Rattle.lent_in.proofs.fill.begun.Statement.{statement}
+use Rattle.lent_in.proofs.fill.begun.Tie as tie
+
+pub begun-spec : {M : Type 1} → statement M
+begun-spec =
+    tie.close
+    (tie.spec
+    (λ c κs. search needs)
+    (λ c κs. search needs)
+    (λ c κs. search needs)
+    (λ c. search needs)
+    (λ c. search needs)
+    (λ c κs. search needs)
+    (λ c κs. search needs)
+    (λ c. search needs)
+    (λ c.
+    let x = c .before .before .before .before .before .before in
+    let b = x .before .before .before .before in
+    begun-by _ _ _ _ _ _ _ _ _ _ _ (b .before .before .before .get-worker .ensures) (b .before .before .begin .ensures) (b .copied .ensures)
+    refl (x .put-sheet .ensures) (c .before .before .put-worker .ensures)))

@@ -1,0 +1,108 @@
+// Begin's order of refusals up to its last, which asks for a free sheet.
+ghost use mathlib.Core.Path.{_≡_};
+ghost use Prim.Native.Nat.{_≤_, _<_};
+ghost use lib.ListN.{length};
+ghost use Rattle.arrays.specs.Fresh.{guardsOf};
+ghost use Rattle.parts.specs.Numbers.{mostLocks};
+ghost use Rattle.parts.specs.Parts.{wornOf};
+ghost use Rattle.parts.specs.Told.{firstOf, refuseIf};
+ghost use Rattle.parts.specs.declared.Refusal.the-variants.{LastTurn};
+ghost use Rattle.records.specs.Job.{jobTold};
+ghost use Rattle.engine.specs.State.{lockCount, wordCount, wordsOf, lockAt};
+ghost use Rattle.cells.specs.Layout.{numbers, unpack};
+ghost use Rattle.lent_in.specs.Calls.{turnOrder, earlyOrder};
+use engine::read::lock_count;
+use engine::read::word_count;
+use parts::Refusal;
+use parts::Told;
+use parts::WORDS;
+use parts::WORKERS;
+
+// How many locks there are, and how many words.
+fn lock_limit(s: &[u32]) -> usize
+    requires { ⌜ numbers ≤ length (now s) ⌝ }
+    ensures { λ r. ⌜ r ≡ lockCount (unpack (now (s .entry))) ⌝ }
+{
+    let l = cells::lock_number(s);
+    lock_count(l)
+}
+
+fn word_limit(s: &[u32]) -> usize
+    requires { ⌜ numbers ≤ length (now s) ⌝ }
+    ensures { λ r. ⌜ r ≡ wordCount (unpack (now (s .entry))) ⌝ }
+{
+    let w = cells::word_number(s);
+    word_count(w)
+}
+
+// The guard of each word.
+fn guards_of(s: &[u32]) -> [u8; WORDS]
+    requires { ⌜ numbers ≤ length (now s) ⌝ }
+    ensures { λ r. ⌜ r ≡ guardsOf (unpack (now (s .entry)) .word) ⌝ }
+{
+    let mut out = [0u8; WORDS];
+    let mut j: usize = 0;
+    while j < WORDS {
+        let w = cells::get_word(s, j);
+        out[j] = w.guard;
+        j += 1;
+    }
+    out
+}
+
+// Refusals 5 to 8: is this a job for this lock?
+fn job_told(s: &[u32], lock: u8, rec: &[u8]) -> Told
+    requires { ⌜ numbers ≤ length (now s) ⌝ }
+    ensures { λ r. ⌜ r ≡ jobTold (now (rec .entry)) lock (guardsOf (wordsOf (unpack (now (s .entry))))) ⌝ }
+{
+    let guards = guards_of(s);
+    let n = word_limit(s);
+    records::job::job_told(rec, lock, &guards[..n])
+}
+
+// Refusal 9.
+fn worn_told(s: &[u32], lock: usize) -> Told
+    requires { ⌜ (numbers ≤ length (now s)) × (lock < mostLocks) ⌝ }
+    ensures { λ r. ⌜ r ≡ refuseIf (wornOf (lockAt (unpack (now (s .entry))) lock)) LastTurn ⌝ }
+{
+    let l = cells::get_lock(s, lock);
+    let worn = l.worn();
+    if worn {
+        return Told::Refused(Refusal::LastTurn);
+    }
+    Told::Accepted
+}
+
+// Refusals 2 and 5 to 9.
+fn turn_told(s: &[u32], lock: u32, rec: &[u8]) -> Told
+    requires { ⌜ numbers ≤ length (now s) ⌝ }
+    ensures { λ r. ⌜ r ≡ firstOf (turnOrder (unpack (now (s .entry))) lock (now (rec .entry))) ⌝ }
+{
+    let n = lock_limit(s);
+    let i = lock as usize;
+    if n <= i {
+        return Told::Refused(Refusal::NoLock);
+    }
+    let told = job_told(s, lock as u8, rec);
+    match told {
+        Told::Refused(_) => told,
+        Told::Accepted => worn_told(s, i),
+    }
+}
+
+// Every refusal of begin but the last, in its order.
+pub fn early_told(s: &[u32], w: u32, lock: u32, rec: &[u8]) -> Told
+    requires { ⌜ numbers ≤ length (now s) ⌝ }
+    ensures { λ r. ⌜ r ≡ firstOf (earlyOrder (unpack (now (s .entry))) w lock (now (rec .entry))) ⌝ }
+{
+    let i = w as usize;
+    if WORKERS <= i {
+        return Told::Refused(Refusal::NoWorker);
+    }
+    let k = cells::get_worker(s, i);
+    let told = k.begin_told();
+    match told {
+        Told::Refused(_) => told,
+        Told::Accepted => turn_told(s, lock, rec),
+    }
+}

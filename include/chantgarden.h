@@ -1,0 +1,98 @@
+/* The job engine, called from C: nine calls on a state that the caller lends as plain numbers. Link libchantgarden.a.
+ *
+ * Lending: a pointer is followed by how many numbers or bytes it points to; it is not NULL, and what two pointers of one call
+ * point to does not overlap. No call keeps a pointer, allocates or blocks. Between calls the numbers may be moved or copied; only
+ * these calls should change them. Numbers that no call gave are still read as some state, and never past the lent ones.
+ *
+ * Answers: number 0 says that the call was accepted. Any other number is a refusal of document 01, and place is its place there.
+ * A refusal changes not one number of the state and not one byte of the buffer (setup: the state becomes the blank one, except
+ * under 22). A field that has nothing to tell is 0, so all of them after number and place where a call is refused.
+ *
+ *    1 worker above 7                        9 the lock is free with turn 67,108,864
+ *    2 lock not below L                     10 no free sheet
+ *    3 worker under way                     11 worker idle
+ *    4 answer not collected                 12 L, W, a guard or a turn outside its range; park: blank state
+ *    5 record length wrong                  13 lent buffer shorter than the record
+ *    6 kind is not the one this call takes  14 sheet above 31 or free
+ *    7 instruction badly formed, or the     15 a lock is held
+ *      last is no halt                      16 word not below W
+ *    8 a load, store or cam names a word    22 fewer numbers lent than CHANT_STATE_NUMBERS; every call gives it before any other
+ *      this lock doesn't guard, or no word
+ */
+#ifndef CHANTGARDEN_H
+#define CHANTGARDEN_H
+
+#include <stddef.h>
+#include <stdint.h>
+
+/* The compiler warns where a result is dropped unread. */
+#if defined(__GNUC__) || defined(__clang__)
+#define CHANT_READ __attribute__((warn_unused_result))
+#else
+#define CHANT_READ
+#endif
+
+/* The numbers of a state. All 0 is the blank state: no locks, no words, idle workers, free sheets. */
+#define CHANT_STATE_NUMBERS 6724
+
+/* A buffer of so many bytes is long enough for every job record, for every setup record. */
+#define CHANT_JOB_BYTES 132
+#define CHANT_SETUP_BYTES 390
+
+/* What a collected answer says. */
+#define CHANT_RAN_YES 1
+#define CHANT_RAN_NO 2
+#define CHANT_NOT_TAKEN 3
+
+#ifdef __cplusplus
+extern "C" {
+#endif
+
+typedef struct { uint32_t number, place; } chant_reply; /* number: 0 accepted */
+typedef struct { uint32_t number, place, answer, steps; } chant_collected;
+typedef struct { uint32_t number, place, value, count, guard; } chant_word;
+typedef struct { uint32_t number, place, turn, held, sheet; } chant_lock; /* held: 0 free, 1 held by sheet */
+typedef struct { uint32_t number, place, length; } chant_wrote;
+
+/* Makes a fresh state from a setup record (kind 2), whatever the numbers were; a refused one makes the blank state.
+ * Refused 5, 6, 12. The place of 12 is the first byte of what is outside its range. */
+CHANT_READ chant_reply chant_setup(uint32_t *state, size_t numbers, const uint8_t *record, size_t length);
+
+/* Gives an idle worker a job record (kind 1) to try under a lock: takes the free sheet with the lowest number, copies the job,
+ * empties the log, clears the mark. Refused 1, 3, 4, 2, 5, 6, 7, 8, 9, 10. The place of 7 and 8 is the instruction's, from 0. */
+CHANT_READ chant_reply chant_begin(uint32_t *state, size_t numbers, uint32_t worker, uint32_t lock, const uint8_t *record,
+                                   size_t length);
+
+/* Does one step of the worker's try. A try ends within 100 steps; 4 then says that its answer waits to be collected.
+ * Refused 1, 11, 4. */
+CHANT_READ chant_reply chant_step(uint32_t *state, size_t numbers, uint32_t worker);
+
+/* Hands out a finished worker's answer (CHANT_RAN_YES, CHANT_RAN_NO, CHANT_NOT_TAKEN: not run, may be tried again at once) and
+ * the number of accepted steps since begin, and makes the worker idle. Refused 1, 11, 3. */
+CHANT_READ chant_collected chant_collect(uint32_t *state, size_t numbers, uint32_t worker);
+
+/* Makes a worker that isn't idle idle, at any point. A lock that its sheet holds stays held: the next worker at that lock runs
+ * the job to its end. The answer of a finished worker is lost. Refused 1, 11. */
+CHANT_READ chant_reply chant_drop(uint32_t *state, size_t numbers, uint32_t worker);
+
+/* Tells a word's value, its count of changes since setup, and the lock that guards it.
+ * Refused 16. */
+CHANT_READ chant_word chant_read_word(const uint32_t *state, size_t numbers, uint32_t word);
+
+/* Tells a lock's turn, and whether it is held and by which sheet.
+ * Refused 2. */
+CHANT_READ chant_lock chant_read_lock(const uint32_t *state, size_t numbers, uint32_t lock);
+
+/* Writes the job record of a sheet in use into the first bytes of the buffer; length tells how many. The bytes after them don't
+ * change. Refused 14, 13. */
+CHANT_READ chant_wrote chant_show(const uint32_t *state, size_t numbers, uint32_t sheet, uint8_t *buffer, size_t length);
+
+/* Writes the setup record of the present values and turns into the first bytes of the buffer; length tells how many. The bytes
+ * after them don't change. Refused 12 at place 4 (blank state), 15 at the lowest held lock, 13. */
+CHANT_READ chant_wrote chant_park(const uint32_t *state, size_t numbers, uint8_t *buffer, size_t length);
+
+#ifdef __cplusplus
+}
+#endif
+
+#endif

@@ -1,0 +1,59 @@
+//! One worker is cut off in the middle of its job, and another finishes it.
+//! scripts/examples builds and runs this.
+
+use chantgarden::{Answer, Engine, Holder, Refusal};
+
+/// Two locks; words 0, 1, 2 hold 5, 9, 7; lock 0 guards words 0 and 1.
+const SETUP: [u8; 29] = [
+    29, 0, 2, 0, 2, 3, 0, 0, 1, 5, 0, 0, 0, 9, 0, 0, 0, 7, 0, 0, 0, 0, 0, 0, 0, 0, 0, 0, 0,
+];
+/// Load word 0, set 1, add, store to word 0, halt yes.
+const ADD: [u8; 24] = [
+    24, 0, 1, 0, 2, 0, 0, 0, 1, 1, 1, 0, 5, 0, 1, 0, 3, 0, 0, 0, 0, 1, 0, 0,
+];
+/// Load words 0 and 1, skip one if they are equal, halt no, halt yes.
+const EQUAL: [u8; 24] = [
+    24, 0, 1, 0, 2, 0, 0, 0, 2, 1, 1, 0, 7, 0, 1, 1, 0, 0, 0, 0, 0, 1, 0, 0,
+];
+
+/// Begins a job under lock 0, steps it to its end and collects the answer.
+fn try_job(engine: &mut Engine, worker: u32, job: &[u8]) -> Result<(), Refusal> {
+    engine.begin(worker, 0, job)?;
+    while engine.step(worker).is_ok() {}
+    let told = engine.collect(worker)?;
+    let answer = match told.answer {
+        Answer::RanYes => "ran, yes",
+        Answer::RanNo => "ran, no",
+        Answer::NotTaken => "not taken",
+    };
+    println!("worker {worker}: {answer}, after {} steps", told.steps);
+    Ok(())
+}
+
+fn tell(engine: &Engine) -> Result<(), Refusal> {
+    let word = engine.read_word(0)?;
+    let lock = engine.read_lock(0)?;
+    let (value, count, turn) = (word.value, word.count, lock.turn);
+    let held = match lock.holder {
+        Holder::Free => "free",
+        Holder::Sheet(_) => "held",
+    };
+    println!("word 0 is {value}, count {count}; lock 0 is {held}, turn {turn}");
+    Ok(())
+}
+
+fn main() -> Result<(), Refusal> {
+    let mut engine = Engine::blank();
+    engine.setup(&SETUP)?;
+    engine.begin(0, 0, &ADD)?;
+    for _ in 0..10 {
+        engine.step(0)?;
+    }
+    engine.drop_worker(0)?;
+    println!("worker 0: cut off after 10 steps");
+    tell(&engine)?;
+    try_job(&mut engine, 1, &EQUAL)?;
+    tell(&engine)?;
+    try_job(&mut engine, 1, &EQUAL)?;
+    tell(&engine)
+}

@@ -1,0 +1,252 @@
+//! The job engine for Rust programs: an [`Engine`] that owns its numbers, over
+//! the proved archive. Every call, with every number and every record, ends
+//! in an answer or a [`Refusal`], and a refusal changes nothing.
+//!
+//! ```
+//! use chantgarden::{Answer, Engine, Refusal};
+//!
+//! // One lock; it guards the only word, which holds 5. The job answers yes.
+//! let setup = [15, 0, 2, 0, 1, 1, 0, 5, 0, 0, 0, 0, 0, 0, 0];
+//! let job = [8, 0, 1, 0, 0, 1, 0, 0];
+//! let mut engine = Engine::blank();
+//! engine.setup(&setup)?;
+//! engine.begin(0, 0, &job)?;
+//! while engine.step(0).is_ok() {}
+//! assert_eq!(engine.collect(0)?.answer, Answer::RanYes);
+//! # Ok::<(), Refusal>(())
+//! ```
+//!
+//! No answer is dropped unread without a warning of the compiler:
+//!
+//! ```compile_fail
+//! #![deny(unused_must_use)]
+//! chantgarden::Engine::blank().step(0);
+//! ```
+#![deny(unsafe_code)]
+#![warn(missing_docs)]
+
+#[allow(unsafe_code, missing_docs)]
+pub mod lent;
+#[cfg(test)]
+mod tests;
+
+use std::error::Error;
+use std::fmt;
+
+/// A refusal: its number in document 01's table, and its place.
+#[derive(Clone, Copy, PartialEq, Eq, Hash, Debug)]
+pub struct Refusal {
+    /// The number, from 1 on.
+    pub number: u32,
+    /// Where the fault lies, for the refusals that tell it; else 0.
+    pub place: u32,
+}
+
+impl Refusal {
+    /// When the refusal is given, in document 01's words.
+    pub fn words(self) -> &'static str {
+        match self.number {
+            1 => "worker above 7",
+            2 => "lock not below L",
+            3 => "worker under way",
+            4 => "answer not collected",
+            5 => "record length wrong",
+            6 => "kind is not the one this call takes",
+            7 => "instruction badly formed, or the last is no halt",
+            8 => "a load, store or cam names a word this lock doesn't guard, or no word",
+            9 => "the lock is free with turn 67,108,864",
+            10 => "no free sheet",
+            11 => "worker idle",
+            12 => "L, W, a guard or a turn outside its range, or blank state",
+            13 => "lent buffer shorter than the record",
+            14 => "sheet above 31 or free",
+            15 => "a lock is held",
+            16 => "word not below W",
+            22 => "fewer numbers lent than a state has",
+            _ => "a refusal that this text doesn't know",
+        }
+    }
+}
+
+impl fmt::Display for Refusal {
+    fn fmt(&self, out: &mut fmt::Formatter<'_>) -> fmt::Result {
+        let Refusal { number, place } = self;
+        write!(out, "refused {number} at place {place}: {}", self.words())
+    }
+}
+
+impl Error for Refusal {}
+
+/// What a finished try answers.
+#[must_use = "an unread answer is lost"]
+#[derive(Clone, Copy, PartialEq, Eq, Hash, Debug)]
+pub enum Answer {
+    /// The job ran, and its halt says yes.
+    RanYes,
+    /// The job ran, and its halt says no.
+    RanNo,
+    /// The job was not run; the caller may try again at once.
+    NotTaken,
+}
+
+/// What collect hands out.
+#[must_use = "an unread answer is lost"]
+#[derive(Clone, Copy, PartialEq, Eq, Hash, Debug)]
+pub struct Collected {
+    /// The try's answer.
+    pub answer: Answer,
+    /// The accepted steps since begin.
+    pub steps: u32,
+}
+
+/// A word.
+#[must_use]
+#[derive(Clone, Copy, PartialEq, Eq, Hash, Debug)]
+pub struct Word {
+    /// Its present value.
+    pub value: u32,
+    /// How often it changed since setup.
+    pub count: u32,
+    /// The lock that guards it.
+    pub guard: u32,
+}
+
+/// Whether a lock is held.
+#[must_use]
+#[derive(Clone, Copy, PartialEq, Eq, Hash, Debug)]
+pub enum Holder {
+    /// It is free.
+    Free,
+    /// This sheet holds it.
+    Sheet(u32),
+}
+
+/// A lock word.
+#[must_use]
+#[derive(Clone, Copy, PartialEq, Eq, Hash, Debug)]
+pub struct LockWord {
+    /// How often the lock was won, from the setup's starting turn on.
+    pub turn: u32,
+    /// Who holds it.
+    pub holder: Holder,
+}
+
+/// An engine: workers 0 to 7 that share words under locks, one step at a
+/// time. It owns its numbers, which hold no pointer: a clone is a second
+/// engine in the same state. Numbers too large are refused like any other.
+#[derive(Clone)]
+pub struct Engine {
+    numbers: Box<[u32]>,
+}
+
+impl Engine {
+    /// The most bytes of a job record.
+    pub const JOB_BYTES: usize = 132;
+    /// The most bytes of a setup record.
+    pub const SETUP_BYTES: usize = 390;
+
+    /// The blank state: no locks, no words, idle workers, free sheets.
+    pub fn blank() -> Engine {
+        let numbers = vec![0; lent::NUMBERS].into_boxed_slice();
+        Engine { numbers }
+    }
+
+    /// A fresh state from a setup record; a refused one gives the blank state.
+    pub fn setup(&mut self, record: &[u8]) -> Result<(), Refusal> {
+        accepted(lent::setup(&mut self.numbers, record))
+    }
+
+    /// Gives an idle worker a job record to try under a lock.
+    pub fn begin(&mut self, worker: u32, lock: u32, record: &[u8]) -> Result<(), Refusal> {
+        accepted(lent::begin(&mut self.numbers, worker, lock, record))
+    }
+
+    /// One step of a worker's try. It is refused with number 4 once the try
+    /// has an answer to collect, which is so after at most 100 steps.
+    pub fn step(&mut self, worker: u32) -> Result<(), Refusal> {
+        accepted(lent::step(&mut self.numbers, worker))
+    }
+
+    /// Hands out a finished worker's answer and makes the worker idle.
+    pub fn collect(&mut self, worker: u32) -> Result<Collected, Refusal> {
+        let told = lent::collect(&mut self.numbers, worker);
+        accept(told.number, told.place)?;
+        let answer = match told.answer {
+            1 => Answer::RanYes,
+            2 => Answer::RanNo,
+            // The archive gives no number but 3 here.
+            _ => Answer::NotTaken,
+        };
+        let steps = told.steps;
+        Ok(Collected { answer, steps })
+    }
+
+    /// Makes a worker that isn't idle idle, at any point of its try. A held
+    /// lock stays held; the answer of a finished worker is lost.
+    pub fn drop_worker(&mut self, worker: u32) -> Result<(), Refusal> {
+        accepted(lent::drop(&mut self.numbers, worker))
+    }
+
+    /// Tells a word's value, its count of changes and its guard.
+    pub fn read_word(&self, word: u32) -> Result<Word, Refusal> {
+        let told = lent::read_word(&self.numbers, word);
+        accept(told.number, told.place)?;
+        Ok(Word {
+            value: told.value,
+            count: told.count,
+            guard: told.guard,
+        })
+    }
+
+    /// Tells a lock's turn, and which sheet holds it.
+    pub fn read_lock(&self, lock: u32) -> Result<LockWord, Refusal> {
+        let told = lent::read_lock(&self.numbers, lock);
+        accept(told.number, told.place)?;
+        let turn = told.turn;
+        let holder = match told.held {
+            0 => Holder::Free,
+            _ => Holder::Sheet(told.sheet),
+        };
+        Ok(LockWord { turn, holder })
+    }
+
+    /// Writes the job record of a sheet in use into the first bytes of the
+    /// buffer and tells how many; the bytes after them don't change.
+    pub fn show(&self, sheet: u32, buffer: &mut [u8]) -> Result<usize, Refusal> {
+        wrote(lent::show(&self.numbers, sheet, buffer))
+    }
+
+    /// Writes the setup record of the present values and turns into the
+    /// first bytes of the buffer and tells how many.
+    pub fn park(&self, buffer: &mut [u8]) -> Result<usize, Refusal> {
+        wrote(lent::park(&self.numbers, buffer))
+    }
+}
+
+impl Default for Engine {
+    fn default() -> Engine {
+        Engine::blank()
+    }
+}
+
+impl fmt::Debug for Engine {
+    fn fmt(&self, out: &mut fmt::Formatter<'_>) -> fmt::Result {
+        out.debug_struct("Engine").finish_non_exhaustive()
+    }
+}
+
+fn accept(number: u32, place: u32) -> Result<(), Refusal> {
+    match number {
+        0 => Ok(()),
+        _ => Err(Refusal { number, place }),
+    }
+}
+
+fn accepted(told: lent::Reply) -> Result<(), Refusal> {
+    accept(told.number, told.place)
+}
+
+fn wrote(told: lent::Wrote) -> Result<usize, Refusal> {
+    accept(told.number, told.place)?;
+    Ok(told.length as usize)
+}

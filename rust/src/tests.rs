@@ -1,0 +1,273 @@
+//! The starred rows of document 01's example table, every refusal that calls
+//! can reach, and the lent calls with too few numbers.
+
+use crate::lent::{self, NUMBERS};
+use crate::{Answer, Collected, Engine, Holder, LockWord, Refusal, Word};
+
+/// Setup S: two locks, words 5 and 9 under lock 0, word 7 under lock 1.
+const S: [u8; 29] = [
+    29, 0, 2, 0, 2, 3, 0, 0, 1, 5, 0, 0, 0, 9, 0, 0, 0, 7, 0, 0, 0, 0, 0, 0, 0, 0, 0, 0, 0,
+];
+/// Job A adds 1 to word 0.
+const A: [u8; 24] = [
+    24, 0, 1, 0, 2, 0, 0, 0, 1, 1, 1, 0, 5, 0, 1, 0, 3, 0, 0, 0, 0, 1, 0, 0,
+];
+/// Job B: are words 0 and 1 equal?
+const B: [u8; 24] = [
+    24, 0, 1, 0, 2, 0, 0, 0, 2, 1, 1, 0, 7, 0, 1, 1, 0, 0, 0, 0, 0, 1, 0, 0,
+];
+
+fn engine() -> Engine {
+    let mut engine = Engine::blank();
+    assert_eq!(engine.setup(&S), Ok(()));
+    engine
+}
+
+/// An engine in which worker 0 has made so many steps of job A on lock 0.
+fn with_a(steps: u32) -> Engine {
+    let mut engine = engine();
+    assert_eq!(engine.begin(0, 0, &A), Ok(()));
+    for _ in 0..steps {
+        assert_eq!(engine.step(0), Ok(()));
+    }
+    engine
+}
+
+/// Steps a worker to its end and collects.
+fn finished(engine: &mut Engine, worker: u32) -> (Answer, u32) {
+    while engine.step(worker).is_ok() {}
+    let Collected { answer, steps } = engine.collect(worker).expect("it has an answer");
+    (answer, steps)
+}
+
+fn alone(engine: &mut Engine, worker: u32, job: &[u8]) -> (Answer, u32) {
+    assert_eq!(engine.begin(worker, 0, job), Ok(()));
+    finished(engine, worker)
+}
+
+fn refused<T>(number: u32, place: u32) -> Result<T, Refusal> {
+    Err(Refusal { number, place })
+}
+
+/// Word 0 under lock 0.
+fn word(value: u32, count: u32) -> Result<Word, Refusal> {
+    let guard = 0;
+    Ok(Word {
+        value,
+        count,
+        guard,
+    })
+}
+
+fn lock(turn: u32, holder: Holder) -> Result<LockWord, Refusal> {
+    Ok(LockWord { turn, holder })
+}
+
+#[test]
+fn rows_a_and_b() {
+    let mut engine = engine();
+    assert_eq!(alone(&mut engine, 0, &A), (Answer::RanYes, 14));
+    assert_eq!(engine.read_word(0), word(6, 1));
+    assert_eq!(engine.read_lock(0), lock(1, Holder::Free));
+    assert_eq!(alone(&mut engine, 0, &B), (Answer::RanNo, 12));
+}
+
+#[test]
+fn rows_c_and_d() {
+    let mut engine = with_a(10);
+    assert_eq!(engine.drop_worker(0), Ok(()));
+    assert_eq!(engine.read_word(0), word(5, 0));
+    assert_eq!(engine.read_lock(0), lock(1, Holder::Sheet(0)));
+    assert_eq!(alone(&mut engine, 1, &B), (Answer::NotTaken, 11));
+    assert_eq!(engine.read_word(0), word(6, 1));
+    assert_eq!(engine.read_lock(0), lock(1, Holder::Free));
+}
+
+#[test]
+fn row_e() {
+    let mut engine = with_a(10);
+    assert_eq!(alone(&mut engine, 1, &B), (Answer::NotTaken, 11));
+    assert_eq!(finished(&mut engine, 0), (Answer::RanYes, 14));
+    assert_eq!(engine.read_word(0), word(6, 1));
+}
+
+#[test]
+fn row_f() {
+    let mut engine = with_a(1);
+    assert_eq!(engine.drop_worker(0), Ok(()));
+    assert_eq!(engine.read_lock(0), lock(0, Holder::Free));
+}
+
+#[test]
+fn row_g() {
+    let mut engine = with_a(1);
+    assert_eq!(engine.begin(1, 0, &B), Ok(()));
+    assert_eq!(engine.step(1), Ok(()));
+    assert_eq!(engine.step(0), Ok(()));
+    assert_eq!(finished(&mut engine, 1), (Answer::NotTaken, 14));
+    assert_eq!(engine.read_word(0), word(6, 1));
+}
+
+#[test]
+fn row_h() {
+    let mut engine = with_a(2);
+    assert_eq!(alone(&mut engine, 1, &B), (Answer::NotTaken, 11));
+    assert_eq!(finished(&mut engine, 0), (Answer::RanYes, 14));
+    assert_eq!(engine.read_word(0), word(6, 1));
+}
+
+#[test]
+fn rows_i_and_j() {
+    let mut skip_two = B;
+    skip_two[15] = 2;
+    assert_eq!(engine().begin(0, 0, &skip_two), refused(7, 2));
+    assert_eq!(engine().begin(0, 1, &A), refused(8, 0));
+}
+
+#[test]
+fn refusals_of_numbers_and_standing() {
+    let mut engine = engine();
+    assert_eq!(engine.begin(8, 0, &A), refused(1, 0));
+    assert_eq!(engine.step(u32::MAX), refused(1, 0));
+    assert_eq!(engine.collect(256), refused(1, 0));
+    assert_eq!(engine.drop_worker(1 << 31), refused(1, 0));
+    assert_eq!(engine.begin(0, 2, &A), refused(2, 0));
+    assert_eq!(engine.read_lock(u32::MAX), refused(2, 0));
+    assert_eq!(engine.read_word(3), refused(16, 0));
+    assert_eq!(engine.step(0), refused(11, 0));
+    assert_eq!(engine.collect(0), refused(11, 0));
+    assert_eq!(engine.drop_worker(0), refused(11, 0));
+    let mut engine = with_a(13);
+    assert_eq!(engine.begin(0, 0, &A), refused(3, 0));
+    assert_eq!(engine.collect(0), refused(3, 0));
+    assert_eq!(engine.step(0), Ok(()));
+    assert_eq!(engine.begin(0, 0, &A), refused(4, 0));
+    assert_eq!(engine.step(0), refused(4, 0));
+}
+
+#[test]
+fn refusals_of_records() {
+    let mut engine = engine();
+    assert_eq!(engine.begin(0, 0, &[]), refused(5, 0));
+    assert_eq!(engine.begin(0, 0, &A[..23]), refused(5, 0));
+    assert_eq!(engine.begin(0, 0, &S), refused(6, 0));
+    let mut late = S;
+    late[24] = 4;
+    assert_eq!(engine.setup(&late), Ok(()));
+    assert_eq!(engine.begin(0, 0, &A), refused(9, 0));
+    late[21] = 1;
+    assert_eq!(engine.setup(&late), refused(12, 21));
+    assert_eq!(engine.setup(&A), refused(6, 0));
+    assert_eq!(engine.setup(&[]), refused(5, 0));
+    assert_eq!(engine.read_word(0), refused(16, 0));
+    // Refusal 10 is out of reach: at a begin at most 7 + 7 + 16 of the 32
+    // sheets are in use.
+}
+
+#[test]
+fn the_writers_and_their_refusals() {
+    let mut engine = with_a(1);
+    let mut buffer = [0xA5; Engine::SETUP_BYTES];
+    assert_eq!(engine.show(1, &mut buffer), refused(14, 0));
+    assert_eq!(engine.show(32, &mut buffer), refused(14, 0));
+    assert_eq!(engine.show(0, &mut buffer[..23]), refused(13, 0));
+    assert_eq!(engine.park(&mut buffer[..28]), refused(13, 0));
+    assert_eq!(Engine::blank().park(&mut buffer), refused(12, 4));
+    assert!(buffer.iter().all(|&byte| byte == 0xA5));
+    assert_eq!(engine.park(&mut buffer), Ok(29));
+    assert_eq!(buffer[..29], S);
+    assert_eq!(engine.show(0, &mut buffer), Ok(24));
+    assert_eq!(buffer[..24], A);
+    assert_eq!(buffer[24..29], S[24..]);
+    assert!(buffer[29..].iter().all(|&byte| byte == 0xA5));
+    assert_eq!(engine.step(0), Ok(()));
+    assert_eq!(engine.park(&mut buffer), refused(15, 0));
+}
+
+/// A clone goes its own way, and a refused setup gives the blank state.
+#[test]
+fn the_numbers_are_the_state() {
+    let mut engine = with_a(10);
+    let mut other = engine.clone();
+    assert_eq!(finished(&mut other, 0), (Answer::RanYes, 14));
+    assert_eq!(engine.read_word(0), word(5, 0));
+    assert_eq!(finished(&mut engine, 0), (Answer::RanYes, 14));
+    assert_eq!(engine.numbers, other.numbers);
+    assert_eq!(engine.setup(&S[..28]), refused(5, 0));
+    assert_eq!(engine.numbers, Engine::blank().numbers);
+}
+
+/// Every call with these numbers; the refusal's number and place of each.
+fn all_calls(numbers: &mut [u32]) -> [(u32, u32); 9] {
+    let buffer = &mut [0xA5; Engine::SETUP_BYTES];
+    let setup = lent::setup(numbers, &S);
+    let begin = lent::begin(numbers, 0, 0, &A);
+    let step = lent::step(numbers, 0);
+    let collect = lent::collect(numbers, 0);
+    let drop = lent::drop(numbers, 0);
+    let word = lent::read_word(numbers, 0);
+    let lock = lent::read_lock(numbers, 0);
+    let show = lent::show(numbers, 0, buffer);
+    let park = lent::park(numbers, buffer);
+    [
+        (setup.number, setup.place),
+        (begin.number, begin.place),
+        (step.number, step.place),
+        (collect.number, collect.place),
+        (drop.number, drop.place),
+        (word.number, word.place),
+        (lock.number, lock.place),
+        (show.number, show.place),
+        (park.number, park.place),
+    ]
+}
+
+/// The header's number is the archive's: one number fewer is refused by
+/// every call, and changes nothing; exactly so many are enough, and what is
+/// lent beyond them is not touched.
+#[test]
+fn refusal_22_of_too_few_numbers() {
+    for length in [0, 1, NUMBERS / 2, NUMBERS - 1] {
+        let mut numbers = vec![7; length];
+        assert_eq!(all_calls(&mut numbers), [(22, 0); 9]);
+        assert!(numbers.iter().all(|&number| number == 7));
+    }
+    for length in [NUMBERS, NUMBERS + 3] {
+        let mut numbers = vec![7; length];
+        let mut told = [(0, 0); 9];
+        (told[3], told[7]) = ((3, 0), (14, 0));
+        assert_eq!(all_calls(&mut numbers), told);
+        assert!(numbers[NUMBERS..].iter().all(|&number| number == 7));
+    }
+}
+
+/// Numbers that no call gave are read as some state: every call ends.
+#[test]
+fn forged_numbers() {
+    for forged in [1, 7, 255, 1 << 16, u32::MAX] {
+        let mut engine = Engine::blank();
+        engine.numbers.fill(forged);
+        let mut buffer = [0; Engine::SETUP_BYTES];
+        for number in [0, 1, 7, 8, 31, u32::MAX] {
+            let _ = engine.read_word(number).is_ok();
+            let _ = engine.read_lock(number).is_ok();
+            let _ = engine.show(number, &mut buffer).is_ok();
+            let _ = engine.begin(number, 0, &A).is_ok();
+            let _ = engine.step(number).is_ok();
+            let _ = engine.collect(number).is_ok();
+            let _ = engine.drop_worker(number).is_ok();
+        }
+        let _ = engine.park(&mut buffer).is_ok();
+    }
+}
+
+#[test]
+fn words_of_refusals() {
+    let (number, place) = (7, 2);
+    let told = Refusal { number, place }.to_string();
+    let said = "refused 7 at place 2: instruction badly formed, or the last is no halt";
+    assert_eq!(told, said);
+    let words = |number| Refusal { number, place: 0 }.words();
+    assert_eq!(words(11), "worker idle");
+    assert_eq!(words(99), "a refusal that this text doesn't know");
+}
