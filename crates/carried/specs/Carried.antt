@@ -1,11 +1,15 @@
 -- Any sequence of lent calls follows the history of the same calls on a state by value; so what is promised of histories is promised
 -- of the numbers.
-use Prim.Native.Nat.{ℕ, _≤_}
+use Prim.Native.Nat.{ℕ}
 use mathlib.Core.Path.{_≡_}
 use mathlib.Core.List.{List, [], _∷_}
-use lib.ListN.{length}
-use Rattle.cells.specs.Layout.{numbers, unpack}
+use Rattle.cells.specs.Layout.{unpack, blanked}
 use Rattle.engine.specs.Calls.{setupOf, beginOf, stepOf, collectOf, dropOf}
+use Rattle.engine.specs.declared.CollectTold.{CollectTold}
+use Rattle.parts.specs.declared.Refusal.{Refusal}
+use Rattle.parts.specs.declared.Told.the-variants.{Refused}
+use Rattle.lent.specs.Calls.{stepNumbers, collectNumbers, dropNumbers}
+use Rattle.lent_in.specs.Calls.{setupNumbers, beginNumbers}
 use Rattle.promises.specs.History.{Call, Begin, Step, Collect, Drop, ReadWord, ReadLock, Show, Park, Past, sofar, Promised}
 
 -- What the contract of each lent call says of the numbers s at its entry and s′ at its exit, where they are enough for a state: the
@@ -28,6 +32,16 @@ Lent s (c ∷ cs) s′ = (m : List ℕ) × Says s c m × Lent m cs s′
 -- From a lent setup, of which the contract says the same, through any lent calls: the numbers say the state that the calls by value
 -- give, and all that is promised of that state, and of what the history comes to, holds of them.
 pub record Carried : Type 0 where
+  -- demand 1: a refusal leaves every number as it was; of a setup, the blank state's. Which refusal is told, and when, is the call's by
+  -- value, and so is what is left in a buffer.
+  pub begin :
+      (s : List ℕ) (w l : ℕ) (rec : List ℕ) (r : Refusal) → beginOf (unpack s) w l rec .told ≡ Refused r → beginNumbers s w l rec ≡ s
+  pub step : (s : List ℕ) (w : ℕ) (r : Refusal) → stepOf (unpack s) w .told ≡ Refused r → stepNumbers s w ≡ s
+  pub collect :
+      (s : List ℕ) (w : ℕ) (r : Refusal) → collectOf (unpack s) w .told ≡ CollectTold.Refused r → collectNumbers s w ≡ s
+  pub drop : (s : List ℕ) (w : ℕ) (r : Refusal) → dropOf (unpack s) w .told ≡ Refused r → dropNumbers s w ≡ s
+  pub setup : (s rec : List ℕ) (r : Refusal) → setupOf rec .told ≡ Refused r → setupNumbers s rec ≡ blanked s
+  -- demands 2 and 3: the state that the numbers say
   pub carried :
       (p : Past) (s s′ : List ℕ) → unpack s ≡ setupOf (p .setup) .engine → Lent s (p .calls) s′ →
       (unpack s′ ≡ sofar p .state) × Promised (setupOf (p .setup) .engine) (sofar p)

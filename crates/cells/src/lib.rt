@@ -6,7 +6,7 @@ ghost use lib.ListN.{length, getD};
 ghost use Rattle.parts.specs.Numbers.{workers, mostLocks, mostWords, sheets, entries};
 ghost use Rattle.parts.specs.Parts.{word0, lock0, instr0, entry0};
 ghost use Rattle.steps.specs.Worker.{worker0};
-ghost use Rattle.engine.specs.State.{sheet0, blankOf, withWorker};
+ghost use Rattle.engine.specs.State.{sheet0, blankOf, lockCount, wordCount, withWorker};
 ghost use Rattle.cells.specs.Layout.{numbers, unpack, putSizes, putWorker, putLock, putWord, putSheet, putInstr, putEntry, blanked};
 ghost use Rattle.cells.specs.State.{withSizes, withLock, withWord, withSheet, withInstr, withEntry};
 
@@ -68,20 +68,37 @@ pub fn blank(s: &mut [u32])
     }
 }
 
-// How many locks there are.
-pub fn lock_number(s: &[u32]) -> u8
+// L as it stands, a byte.
+fn lock_number(s: &[u32]) -> u8
     requires { ⌜ numbers ≤ length (now s) ⌝ }
     ensures { λ r. ⌜ r ≡ unpack (now (s .entry)) .locks ⌝ }
 {
     codes::byte(s[0])
 }
 
-// How many words there are.
-pub fn word_number(s: &[u32]) -> u8
+// W as it stands, a byte.
+fn word_number(s: &[u32]) -> u8
     requires { ⌜ numbers ≤ length (now s) ⌝ }
     ensures { λ r. ⌜ r ≡ unpack (now (s .entry)) .words ⌝ }
 {
     codes::byte(s[1])
+}
+
+// How many locks there are, and how many words.
+pub fn lock_count(s: &[u32]) -> usize
+    requires { ⌜ numbers ≤ length (now s) ⌝ }
+    ensures { λ r. ⌜ r ≡ lockCount (unpack (now (s .entry))) ⌝ }
+{
+    let l = lock_number(s);
+    engine::read::lock_count(l)
+}
+
+pub fn word_count(s: &[u32]) -> usize
+    requires { ⌜ numbers ≤ length (now s) ⌝ }
+    ensures { λ r. ⌜ r ≡ wordCount (unpack (now (s .entry))) ⌝ }
+{
+    let w = word_number(s);
+    engine::read::word_count(w)
 }
 
 pub fn put_sizes(s: &mut [u32], l: u8, w: u8)

@@ -70,8 +70,7 @@ pub fn read_word(s: &[u32], word: u32) -> WordTold
     ensures { λ r. ⌜ r ≡ readWordOf (unpack (now (s .entry))) word ⌝ }
 {
     let i = word as usize;
-    let words = cells::word_number(s);
-    let n = engine::read::word_count(words);
+    let n = cells::word_count(s);
     if n <= i {
         return WordTold::Refused(Refusal::NoWord);
     }
@@ -84,8 +83,7 @@ pub fn read_lock(s: &[u32], lock: u32) -> LockTold
     ensures { λ r. ⌜ r ≡ readLockOf (unpack (now (s .entry))) lock ⌝ }
 {
     let i = lock as usize;
-    let locks = cells::lock_number(s);
-    let n = engine::read::lock_count(locks);
+    let n = cells::lock_count(s);
     if n <= i {
         return LockTold::Refused(Refusal::NoLock);
     }

@@ -8,32 +8,13 @@ ghost use Rattle.parts.specs.Parts.{wornOf};
 ghost use Rattle.parts.specs.Told.{firstOf, refuseIf};
 ghost use Rattle.parts.specs.declared.Refusal.the-variants.{LastTurn};
 ghost use Rattle.records.specs.Job.{jobTold};
-ghost use Rattle.engine.specs.State.{lockCount, wordCount, wordsOf, lockAt};
+ghost use Rattle.engine.specs.State.{wordsOf, lockAt};
 ghost use Rattle.cells.specs.Layout.{numbers, unpack};
 ghost use Rattle.lent_in.specs.Calls.{turnOrder, earlyOrder};
-use engine::read::lock_count;
-use engine::read::word_count;
 use parts::Refusal;
 use parts::Told;
 use parts::WORDS;
 use parts::WORKERS;
-
-// How many locks there are, and how many words.
-fn lock_limit(s: &[u32]) -> usize
-    requires { ⌜ numbers ≤ length (now s) ⌝ }
-    ensures { λ r. ⌜ r ≡ lockCount (unpack (now (s .entry))) ⌝ }
-{
-    let l = cells::lock_number(s);
-    lock_count(l)
-}
-
-fn word_limit(s: &[u32]) -> usize
-    requires { ⌜ numbers ≤ length (now s) ⌝ }
-    ensures { λ r. ⌜ r ≡ wordCount (unpack (now (s .entry))) ⌝ }
-{
-    let w = cells::word_number(s);
-    word_count(w)
-}
 
 // The guard of each word.
 fn guards_of(s: &[u32]) -> [u8; WORDS]
@@ -56,7 +37,7 @@ fn job_told(s: &[u32], lock: u8, rec: &[u8]) -> Told
     ensures { λ r. ⌜ r ≡ jobTold (now (rec .entry)) lock (guardsOf (wordsOf (unpack (now (s .entry))))) ⌝ }
 {
     let guards = guards_of(s);
-    let n = word_limit(s);
+    let n = cells::word_count(s);
     records::job::job_told(rec, lock, &guards[..n])
 }
 
@@ -78,7 +59,7 @@ fn turn_told(s: &[u32], lock: u32, rec: &[u8]) -> Told
     requires { ⌜ numbers ≤ length (now s) ⌝ }
     ensures { λ r. ⌜ r ≡ firstOf (turnOrder (unpack (now (s .entry))) lock (now (rec .entry))) ⌝ }
 {
-    let n = lock_limit(s);
+    let n = cells::lock_count(s);
     let i = lock as usize;
     if n <= i {
         return Told::Refused(Refusal::NoLock);

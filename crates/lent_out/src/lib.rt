@@ -107,23 +107,6 @@ fn put_setup(s: &[u32], w: usize, l: usize, buf: &mut [u8]) -> usize
     6 + 5 * w + 4 * l
 }
 
-// L, and W.
-fn lock_count(s: &[u32]) -> usize
-    requires { ⌜ numbers ≤ length (now s) ⌝ }
-    ensures { λ r. ⌜ r ≡ lockCount (unpack (now (s .entry))) ⌝ }
-{
-    let l = cells::lock_number(s);
-    engine::read::lock_count(l)
-}
-
-fn word_count(s: &[u32]) -> usize
-    requires { ⌜ numbers ≤ length (now s) ⌝ }
-    ensures { λ r. ⌜ r ≡ wordCount (unpack (now (s .entry))) ⌝ }
-{
-    let w = cells::word_number(s);
-    engine::read::word_count(w)
-}
-
 // The order for park, of the first l locks and with w words: 12, 15, 13.
 fn order_told(s: &[u32], l: usize, w: usize, room: usize) -> Told
     requires { ⌜ (numbers ≤ length (now s)) × (l ≤ mostLocks) × (w ≤ mostWords) ⌝ }
@@ -149,8 +132,8 @@ fn park_told(s: &[u32], room: usize) -> Told
     requires { ⌜ numbers ≤ length (now s) ⌝ }
     ensures { λ r. ⌜ r ≡ parkTold (unpack (now (s .entry))) room ⌝ }
 {
-    let l = lock_count(s);
-    let w = word_count(s);
+    let l = cells::lock_count(s);
+    let w = cells::word_count(s);
     order_told(s, l, w, room)
 }
 
@@ -160,8 +143,8 @@ fn put_state(s: &[u32], buf: &mut [u8]) -> usize
     ensures { λ r. ⌜ r ≡ length (stateRecord (unpack (now (s .entry)))) ⌝ }
     ensures { λ _. ⌜ now (buf .exit) ≡ lay 0 (stateRecord (unpack (now (s .entry)))) (now (buf .entry)) ⌝ }
 {
-    let l = lock_count(s);
-    let w = word_count(s);
+    let l = cells::lock_count(s);
+    let w = cells::word_count(s);
     put_setup(s, w, l, buf)
 }
 

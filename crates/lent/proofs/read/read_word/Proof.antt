@@ -14,7 +14,6 @@ read-word-spec =
     tie.close
     (tie.spec
     (λ c κs. search needs)
-    (λ c κs. search needs)
     (λ c. search (told-refused NoWord, laws, orders, counted) depth 8)
     (λ c κs. search needs)
     (λ c. search (told-accepted, laws, orders, counted) depth 8))

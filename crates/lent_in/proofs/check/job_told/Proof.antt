@@ -17,9 +17,9 @@ job-told-spec =
     (λ c κs. search needs)
     (λ c. search needs)
     (λ c.
-    let n = c .before .word-limit .result in
+    let n = c .before .word-count .result in
     let all : length (c .before .before .guards-of .result) ≡ 64 = search needs in
-    let few : n ≤ length (c .before .before .guards-of .result) = omega (arith, c .before .word-limit .ensures) in
+    let few : n ≤ length (c .before .before .guards-of .result) = omega (arith, c .before .word-count .ensures) in
     sym (length-take-le n _ few))
     (λ c κs. search needs)
-    (λ c. job-for _ _ _ _ _ _ _ (c .job-told .ensures) (c .before .before .word-limit .ensures) (c .before .before .before .guards-of .ensures)))
+    (λ c. job-for _ _ _ _ _ _ _ (c .job-told .ensures) (c .before .before .word-count .ensures) (c .before .before .before .guards-of .ensures)))
