@@ -1,0 +1,31 @@
+-- The C interface tells a refusal's place, and how many bytes were written, in 32 bits: nothing is cut, whatever the state and the
+-- arguments.
+use Prim.Native.Nat.{ℕ, _^_, _<_}
+use mathlib.Core.Path.{_≡_}
+use mathlib.Core.List.{List}
+use Rattle.parts.specs.Told.{refusalPlace}
+use Rattle.parts.specs.declared.Refusal.{Refusal}
+use Rattle.parts.specs.declared.Told.the-variants.{Refused}
+use Rattle.engine.specs.Calls.{setupOf, beginOf, stepOf, collectOf, dropOf, readWordOf, readLockOf, showOf, parkOf}
+use Rattle.engine.specs.declared.CollectTold.{CollectTold}
+use Rattle.engine.specs.declared.Engine.{Engine}
+use Rattle.engine.specs.declared.LockTold.{LockTold}
+use Rattle.engine.specs.declared.WordTold.{WordTold}
+use Rattle.engine.specs.declared.WriteTold.{WriteTold}
+
+pub record Fits : Type 0 where
+  -- the calls that tell a place of a record, or a lock
+  pub begin :
+      (e : Engine) (w l : ℕ) (rec : List ℕ) (r : Refusal) → beginOf e w l rec .told ≡ Refused r → refusalPlace r < 2 ^ 32
+  pub setup : (rec : List ℕ) (r : Refusal) → setupOf rec .told ≡ Refused r → refusalPlace r < 2 ^ 32
+  pub park : (e : Engine) (room : ℕ) (r : Refusal) → parkOf e room ≡ WriteTold.Refused r → refusalPlace r < 2 ^ 32
+  -- the calls that tell no place
+  pub step : (e : Engine) (w : ℕ) (r : Refusal) → stepOf e w .told ≡ Refused r → refusalPlace r ≡ 0
+  pub collect : (e : Engine) (w : ℕ) (r : Refusal) → collectOf e w .told ≡ CollectTold.Refused r → refusalPlace r ≡ 0
+  pub drop : (e : Engine) (w : ℕ) (r : Refusal) → dropOf e w .told ≡ Refused r → refusalPlace r ≡ 0
+  pub readWord : (e : Engine) (i : ℕ) (r : Refusal) → readWordOf e i ≡ WordTold.Refused r → refusalPlace r ≡ 0
+  pub readLock : (e : Engine) (l : ℕ) (r : Refusal) → readLockOf e l ≡ LockTold.Refused r → refusalPlace r ≡ 0
+  pub show : (e : Engine) (s room : ℕ) (r : Refusal) → showOf e s room ≡ WriteTold.Refused r → refusalPlace r ≡ 0
+  -- how many bytes the writers wrote
+  pub shown : (e : Engine) (s room n : ℕ) → showOf e s room ≡ WriteTold.Wrote n → n < 2 ^ 32
+  pub parked : (e : Engine) (room n : ℕ) → parkOf e room ≡ WriteTold.Wrote n → n < 2 ^ 32
