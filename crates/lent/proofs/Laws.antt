@@ -1,7 +1,7 @@
 -- The three parts of a call's contract: what it tells, the numbers, and the state that they say.
-use Prim.Native.Nat.{ℕ, _%_, _<_}
+use Prim.Native.Nat.{ℕ, _<_}
 use mathlib.Core.List.{List}
-use mathlib.Core.Path.{_≡_, refl, _∙_, sym, ap}
+use mathlib.Core.Path.{_≡_, refl, _∙_, ap}
 use lib.ListN.{getD}
 use borrow.Author.Tests.{lt-leb}
 use Rattle.parts.specs.Numbers.{workers}
@@ -207,7 +207,3 @@ unfolding collectOf collectNumbers worker.collectTold
 collect-done s s′ w k n x h e q f p u =
     simp (lt-leb workers w h, ← e, q)
     (refl, (p ∙ ap (λ (y : Worker). putWorker s w y) f, u ∙ ap (λ (y : Worker). withWorker (unpack s) w y) f))
-
--- how many there are, of a number that was read
-pub counted : (n x y m : ℕ) → n ≡ x % m → x ≡ y → n ≡ y % m
-counted n x y m h e = simp (← e) h

@@ -1,6 +1,6 @@
 -- What begin makes of the lent numbers, and of the state that they say.
-use Prim.Native.Nat.{ℕ, _+_, _*_, _-_, _/_, _≤_, _<_}
-use mathlib.Core.Bool.{true, false}
+use Prim.Native.Nat.{ℕ, _-_, _/_, _≤_, _<_}
+use mathlib.Core.Bool.{false}
 use mathlib.Core.List.{List, [], _∷_, _++_}
 use mathlib.Core.Path.{_≡_, refl, _∙_, sym, ap}
 use native.Mathlib.Omega.{arith}
@@ -24,10 +24,9 @@ use Rattle.engine.specs.Calls.{beginTold, Begins, begunOf, beginOf}
 use Rattle.engine.proofs.Begins.{begins}
 use Rattle.engine.specs.State.{workerAt, freeSheet, baseOf, withWorker}
 use Rattle.engine.specs.declared.Engine.{Engine}
-use Rattle.engine.specs.declared.Sheet.{Sheet}
 use Rattle.cells.specs.Layout.{instrPart, entryPart, unpack, putSheet, putWorker}
 use Rattle.cells.specs.State.{withSheet}
-use Rattle.lent_in.specs.Calls.{copiedNumbers, copiedOf, sheetFor, begunNumbers, beginNumbers, earlyOrder}
+use Rattle.lent_in.specs.Calls.{copiedNumbers, copiedOf, begunNumbers, beginNumbers, earlyOrder}
 use Rattle.lent_in.specs.Laid.{layProgram, layLog, Laid}
 use Rattle.lent_in.proofs.Loops.{Did}
 

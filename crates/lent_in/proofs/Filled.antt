@@ -1,18 +1,14 @@
 -- What setup makes of the lent numbers, and of the state that they say.
-use Prim.Native.Nat.{ℕ, _+_, _*_, _-_, _≤_}
+use Prim.Native.Nat.{ℕ, _+_, _*_, _-_}
 use mathlib.Core.List.{List, map}
 use mathlib.Core.Path.{_≡_, refl, _∙_, sym, ap}
-use native.Mathlib.Omega.{arith}
 use lib.ListN.{length, take, drop}
 use Rattle.arrays.specs.Fresh.{wordsFrom, freeAt}
-use Rattle.parts.specs.Told.{onTold}
-use Rattle.parts.specs.declared.LockWord.{LockWord}
 use Rattle.parts.specs.declared.Refusal.{Refusal}
 use Rattle.parts.specs.declared.Told.{Told}
 use Rattle.parts.specs.declared.Told.the-variants.{Accepted, Refused}
-use Rattle.parts.specs.declared.Word.{Word}
 use Rattle.records.specs.Bytes.{u32sOf}
-use Rattle.records.specs.Setup.{locksField, wordsField, guardsField, valuesField, turnsField, setupTold}
+use Rattle.records.specs.Setup.{locksField, wordsField, setupTold}
 use Rattle.engine.specs.Calls.{freshOf, setupOf}
 use Rattle.engine.specs.State.{blankOf}
 use Rattle.engine.proofs.Record.{words-part, locks-part}

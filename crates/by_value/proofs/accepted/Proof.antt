@@ -1,6 +1,5 @@
 -- The invariant: the whole order comes to what is left of it from the state reached, with the accepted steps so far.
 use mathlib.Core.Path.{_≡_, refl}
-use native.Mathlib.Omega.{arith}
 use borrow.Author.Needs.{needs}
 use lib.ListN.{length}
 use Rattle.by_value.specs.Timed.{acceptedFrom}

@@ -4,7 +4,6 @@ use Rattle.parts.specs.declared.Refusal.the-variants.{NoLock}
 use Rattle.engine.specs.Calls.{readLockOf}
 use Rattle.parts.proofs.Laws.{laws, orders}
 use Rattle.engine.proofs.Laws.{told-accepted, told-refused}
-use Rattle.lent.proofs.Laws.{counted}
 use Rattle.lent.proofs.read.read_lock.Statement.{statement}
 use Rattle.lent.proofs.read.read_lock.Tie as tie
 
@@ -14,6 +13,6 @@ read-lock-spec =
     tie.close
     (tie.spec
     (λ c κs. search needs)
-    (λ c. search (told-refused NoLock, laws, orders, counted) depth 8)
+    (λ c. search (told-refused NoLock, laws, orders) depth 8)
     (λ c κs. search needs)
-    (λ c. search (told-accepted, laws, orders, counted) depth 8))
+    (λ c. search (told-accepted, laws, orders) depth 8))

@@ -4,7 +4,6 @@ use Rattle.parts.specs.declared.Refusal.the-variants.{NoWord}
 use Rattle.engine.specs.Calls.{readWordOf}
 use Rattle.parts.proofs.Laws.{laws, orders}
 use Rattle.engine.proofs.Laws.{told-accepted, told-refused}
-use Rattle.lent.proofs.Laws.{counted}
 use Rattle.lent.proofs.read.read_word.Statement.{statement}
 use Rattle.lent.proofs.read.read_word.Tie as tie
 
@@ -14,6 +13,6 @@ read-word-spec =
     tie.close
     (tie.spec
     (λ c κs. search needs)
-    (λ c. search (told-refused NoWord, laws, orders, counted) depth 8)
+    (λ c. search (told-refused NoWord, laws, orders) depth 8)
     (λ c κs. search needs)
-    (λ c. search (told-accepted, laws, orders, counted) depth 8))
+    (λ c. search (told-accepted, laws, orders) depth 8))
