@@ -1,10 +1,13 @@
 /* The job engine, called from C: nine calls on a state that the caller lends as plain numbers. Link libchantgarden.a.
  *
  * Lending: a pointer is followed by how many numbers or bytes it points to; it is not NULL, and what two pointers of one call
- * point to does not overlap. No call keeps a pointer, allocates or blocks. Between calls the numbers may be moved or copied; only
- * these calls should change them. Numbers that no call gave are still read as some state, and never past the lent ones.
+ * point to does not overlap. No call keeps a pointer, allocates or blocks. Calls on one state are made one after the other, never
+ * two at a time. Between calls the numbers may be moved or copied; only these calls should change them. Numbers that no call gave are
+ * still read as some state, and never past the lent ones.
  *
- * Answers: number 0 says that the call was accepted. Any other number is a refusal of document 01, and place is its place there.
+ * Answers: number 0 says that the call was accepted. Any other number is a refusal of document 01, and place is its place there,
+ * 0 where it tells none; but 22, which is the header's own, with place 0. Which of several is told is document 01's order, not that of
+ * the lists below.
  * A refusal changes not one number of the state and not one byte of the buffer (setup: the state becomes the blank one, except
  * under 22). A field that has nothing to tell is 0, so all of them after number and place where a call is refused.
  *
@@ -59,7 +62,8 @@ typedef struct { uint32_t number, place, length; } chant_wrote;
 CHANT_READ chant_reply chant_setup(uint32_t *state, size_t numbers, const uint8_t *record, size_t length);
 
 /* Gives an idle worker a job record (kind 1) to try under a lock: takes the free sheet with the lowest number, copies the job,
- * empties the log, clears the mark. Refused 1, 3, 4, 2, 5, 6, 7, 8, 9, 10. The place of 7 and 8 is the instruction's, from 0. */
+ * empties the log, clears the mark. Refused 1, 3, 4, 2, 5, 6, 7, 8, 9, 10. The place of 7 and 8 is the instruction's, from 0; the
+ * lowest faulty instruction is told. */
 CHANT_READ chant_reply chant_begin(uint32_t *state, size_t numbers, uint32_t worker, uint32_t lock, const uint8_t *record,
                                    size_t length);
 
@@ -71,8 +75,8 @@ CHANT_READ chant_reply chant_step(uint32_t *state, size_t numbers, uint32_t work
  * the number of accepted steps since begin, and makes the worker idle. Refused 1, 11, 3. */
 CHANT_READ chant_collected chant_collect(uint32_t *state, size_t numbers, uint32_t worker);
 
-/* Makes a worker that isn't idle idle, at any point. A lock that its sheet holds stays held: the next worker at that lock runs
- * the job to its end. The answer of a finished worker is lost. Refused 1, 11. */
+/* Makes a worker that isn't idle idle, at any point. A held lock stays held: any idle worker that begins there and is stepped runs
+ * the job to its end within 97 steps. The answer of a finished worker is lost. Refused 1, 11. */
 CHANT_READ chant_reply chant_drop(uint32_t *state, size_t numbers, uint32_t worker);
 
 /* Tells a word's value, its count of changes since setup, and the lock that guards it.

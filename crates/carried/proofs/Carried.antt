@@ -1,13 +1,17 @@
 -- By the contracts of the lent calls, one call after the other; then by demand 3.
-use Prim.Native.Nat.{ℕ}
-use mathlib.Core.Path.{_≡_, sym, ap, _∙_}
+use Prim.Native.Nat.{ℕ, _≤_, _<_}
+use mathlib.Core.Path.{_≡_, sym, ap, _∙_, subst}
+use mathlib.Core.Bool.{Bool}
 use mathlib.Core.List.{List, [], _∷_}
 use native.Mathlib.Omega.{arith}
+use lib.ListN.{length}
+use borrow.Author.Tests.{lt-ltb}
+use Rattle.parts.specs.Pick.{pick}
 use Rattle.parts.specs.Told.{onTold}
 use Rattle.parts.specs.declared.Refusal.{Refusal}
 use Rattle.parts.specs.declared.Told.{Told}
 use Rattle.parts.specs.declared.Told.the-variants.{Accepted, Refused}
-use Rattle.cells.specs.Layout.{unpack, blanked}
+use Rattle.cells.specs.Layout.{numbers, unpack, blanked}
 use Rattle.records.specs.Setup.{setupTold}
 use Rattle.steps.specs.Worker.{droppedOf}
 use Rattle.engine.specs.State.{blankOf, workerAt, withWorker}
@@ -19,23 +23,49 @@ use Rattle.lent_in.specs.Calls.{setupNumbers, beginNumbers}
 use Rattle.promises.proofs.Accepted.{collectedTo}
 use Rattle.promises.specs.History.{Call, Begin, Step, Collect, Drop, ReadWord, ReadLock, Show, Park, after, afterAll}
 use Rattle.promises.proofs.Demand.{demand-3}
-use Rattle.carried.specs.Carried.{Says, Lent, Carried}
+use Rattle.carried.specs.Carried.{Leaves, Says, Lent, Carried}
 
-says-after : (s : List ℕ) (c : Call) (s′ : List ℕ) → Says s c s′ → unpack s′ ≡ after (unpack s) c
+-- one lent call: the state that the numbers say, and how many they are
+says-after :
+    (s : List ℕ) (c : Call) (s′ : List ℕ) → numbers ≤ length s → Says s c s′ →
+    (unpack s′ ≡ after (unpack s) c) × (length s′ ≡ length s)
 unfolding after
-says-after s (Begin w l rec) s′ h = h
-says-after s (Step w) s′ h = h
-says-after s (Collect w) s′ h = h
-says-after s (Drop w) s′ h = h
-says-after s (ReadWord i) s′ h = ap unpack h
-says-after s (ReadLock l) s′ h = ap unpack h
-says-after s (Show sheet room) s′ h = ap unpack h
-says-after s (Park room) s′ h = ap unpack h
+says-after s (Begin w l rec) s′ n h = (h .state n, h .size)
+says-after s (Step w) s′ n h = (h .state n, h .size)
+says-after s (Collect w) s′ n h = (h .state n, h .size)
+says-after s (Drop w) s′ n h = (h .state n, h .size)
+says-after s (ReadWord i) s′ n h = (ap unpack h, ap length h)
+says-after s (ReadLock l) s′ n h = (ap unpack h, ap length h)
+says-after s (Show sheet room) s′ n h = (ap unpack h, ap length h)
+says-after s (Park room) s′ n h = (ap unpack h, ap length h)
 
-pub follows : (s : List ℕ) (cs : List Call) (s′ : List ℕ) → Lent s cs s′ → unpack s′ ≡ afterAll (unpack s) cs
+pub follows :
+    (s : List ℕ) (cs : List Call) (s′ : List ℕ) → numbers ≤ length s → Lent s cs s′ → unpack s′ ≡ afterAll (unpack s) cs
 unfolding afterAll
-follows s [] s′ h = ap unpack h
-follows s (c ∷ cs) s′ (m, q, h) = follows m cs s′ h ∙ ap (λ (e : Engine). afterAll e cs) (says-after s c m q)
+follows s [] s′ n h = ap unpack h
+follows s (c ∷ cs) s′ n (m, q, h) =
+    let here = says-after s c m n q in
+    follows m cs s′ (omega (arith, here .1)) h ∙ ap (λ (e : Engine). afterAll e cs) (here .0)
+
+-- too few numbers
+short-left : (s s′ exact : List ℕ) (e : Engine) → length s < numbers → Leaves s s′ exact e → s′ ≡ s
+short-left s s′ exact e n h = h .exactly ∙ ap (λ (b : Bool). pick b s exact) (lt-ltb (length s) numbers n)
+
+short-call : (s : List ℕ) (c : Call) (s′ : List ℕ) → length s < numbers → Says s c s′ → s′ ≡ s
+short-call s (Begin w l rec) s′ n h = short-left s s′ _ _ n h
+short-call s (Step w) s′ n h = short-left s s′ _ _ n h
+short-call s (Collect w) s′ n h = short-left s s′ _ _ n h
+short-call s (Drop w) s′ n h = short-left s s′ _ _ n h
+short-call s (ReadWord i) s′ n h = h
+short-call s (ReadLock l) s′ n h = h
+short-call s (Show sheet room) s′ n h = h
+short-call s (Park room) s′ n h = h
+
+short-all : (s : List ℕ) (cs : List Call) (s′ : List ℕ) → length s < numbers → Lent s cs s′ → s′ ≡ s
+short-all s [] s′ n h = h
+short-all s (c ∷ cs) s′ n (m, q, h) =
+    let here = short-call s c m n q in
+    short-all m cs s′ (subst (λ (x : List ℕ). length x < numbers) (sym here) n) h ∙ here
 
 -- what an outcome tells that is refused
 refused-by : (e : Engine) (t : Told) (next : Engine) (r : Refusal) → outcomeOf e t next .told ≡ Refused r → t ≡ Refused r
@@ -85,8 +115,11 @@ carried =
       collect = collect-left;
       drop = drop-left;
       setup = setup-left;
+      short = short-all;
       carried =
-          λ p s s′ q h.
-          let d = demand-3 p in
-          (follows s (p .calls) s′ h ∙ ap (λ (e : Engine). afterAll e (p .calls)) q ∙ sym (d .state), d .promised);
+          λ p s₀ s s′ n q h.
+          let d = demand-3 p in (
+            follows s (p .calls) s′ (omega (arith, q .size)) h ∙ ap (λ (e : Engine). afterAll e (p .calls)) (q .state n) ∙ sym (d .state),
+            d .promised,
+          );
     }

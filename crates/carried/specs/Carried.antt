@@ -1,24 +1,33 @@
 -- Any sequence of lent calls follows the history of the same calls on a state by value; so what is promised of histories is promised
 -- of the numbers.
-use Prim.Native.Nat.{ℕ}
+use Prim.Native.Nat.{ℕ, _≤_, _<_}
 use mathlib.Core.Path.{_≡_}
 use mathlib.Core.List.{List, [], _∷_}
-use Rattle.cells.specs.Layout.{unpack, blanked}
+use lib.ListN.{length}
+use Rattle.cells.specs.Layout.{numbers, unpack, blanked}
+use Rattle.door.specs.Door.{unlessShort}
 use Rattle.engine.specs.Calls.{setupOf, beginOf, stepOf, collectOf, dropOf}
 use Rattle.engine.specs.declared.CollectTold.{CollectTold}
+use Rattle.engine.specs.declared.Engine.{Engine}
 use Rattle.parts.specs.declared.Refusal.{Refusal}
 use Rattle.parts.specs.declared.Told.the-variants.{Refused}
 use Rattle.lent.specs.Calls.{stepNumbers, collectNumbers, dropNumbers}
 use Rattle.lent_in.specs.Calls.{setupNumbers, beginNumbers}
 use Rattle.promises.specs.History.{Call, Begin, Step, Collect, Drop, ReadWord, ReadLock, Show, Park, Past, sofar, Promised}
 
--- What the contract of each lent call says of the numbers s at its entry and s′ at its exit, where they are enough for a state: the
--- state that s′ says is what the call by value gives on the state that s says. The readers and writers change no number.
+-- What the contract of a lent call says of the numbers s at its entry and s′ at its exit (door's `ensures`, line by line): s′ are these
+-- numbers exactly; where s were enough for a state, s′ say this state; and a lent slice keeps its length.
+pub record Leaves (s s′ exact : List ℕ) (e : Engine) : Type 0 where
+  pub exactly : s′ ≡ unlessShort s s exact
+  pub state : numbers ≤ length s → unpack s′ ≡ e
+  pub size : length s′ ≡ length s
+
+-- of each call; the readers and writers change no number
 abbrev pub Says : List ℕ → Call → List ℕ → Type 0
-Says s (Begin w l rec) s′ = unpack s′ ≡ beginOf (unpack s) w l rec .engine
-Says s (Step w) s′ = unpack s′ ≡ stepOf (unpack s) w .engine
-Says s (Collect w) s′ = unpack s′ ≡ collectOf (unpack s) w .engine
-Says s (Drop w) s′ = unpack s′ ≡ dropOf (unpack s) w .engine
+Says s (Begin w l rec) s′ = Leaves s s′ (beginNumbers s w l rec) (beginOf (unpack s) w l rec .engine)
+Says s (Step w) s′ = Leaves s s′ (stepNumbers s w) (stepOf (unpack s) w .engine)
+Says s (Collect w) s′ = Leaves s s′ (collectNumbers s w) (collectOf (unpack s) w .engine)
+Says s (Drop w) s′ = Leaves s s′ (dropNumbers s w) (dropOf (unpack s) w .engine)
 Says s (ReadWord i) s′ = s′ ≡ s
 Says s (ReadLock l) s′ = s′ ≡ s
 Says s (Show sheet room) s′ = s′ ≡ s
@@ -29,8 +38,7 @@ abbrev pub Lent : List ℕ → List Call → List ℕ → Type 0
 Lent s [] s′ = s′ ≡ s
 Lent s (c ∷ cs) s′ = (m : List ℕ) × Says s c m × Lent m cs s′
 
--- From a lent setup, of which the contract says the same, through any lent calls: the numbers say the state that the calls by value
--- give, and all that is promised of that state, and of what the history comes to, holds of them.
+-- what lent calls come to
 pub record Carried : Type 0 where
   -- demand 1: a refusal leaves every number as it was; of a setup, the blank state's. Which refusal is told, and when, is the call's by
   -- value, and so is what is left in a buffer.
@@ -41,7 +49,11 @@ pub record Carried : Type 0 where
       (s : List ℕ) (w : ℕ) (r : Refusal) → collectOf (unpack s) w .told ≡ CollectTold.Refused r → collectNumbers s w ≡ s
   pub drop : (s : List ℕ) (w : ℕ) (r : Refusal) → dropOf (unpack s) w .told ≡ Refused r → dropNumbers s w ≡ s
   pub setup : (s rec : List ℕ) (r : Refusal) → setupOf rec .told ≡ Refused r → setupNumbers s rec ≡ blanked s
-  -- demands 2 and 3: the state that the numbers say
+  -- fewer numbers than a state takes: no call changes one
+  pub short : (s : List ℕ) (calls : List Call) (s′ : List ℕ) → length s < numbers → Lent s calls s′ → s′ ≡ s
+  -- From a lent setup through any lent calls: the numbers say the state that the calls by value give. What a lent call tells then, and
+  -- does, is said of that state (demands 1 and 2), and all that is promised of it and of what the history comes to holds (demand 3).
   pub carried :
-      (p : Past) (s s′ : List ℕ) → unpack s ≡ setupOf (p .setup) .engine → Lent s (p .calls) s′ →
+      (p : Past) (s₀ s s′ : List ℕ) → numbers ≤ length s₀ →
+      Leaves s₀ s (setupNumbers s₀ (p .setup)) (setupOf (p .setup) .engine) → Lent s (p .calls) s′ →
       (unpack s′ ≡ sofar p .state) × Promised (setupOf (p .setup) .engine) (sofar p)
