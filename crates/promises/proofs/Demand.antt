@@ -39,6 +39,7 @@ use Rattle.promises.proofs.Accepted.{one-of, finished-of, collect-told}
 use Rattle.promises.proofs.Uncut.{uncut}
 use Rattle.promises.proofs.Counted.{stepped-worker}
 use Rattle.promises.proofs.Standing.{Standing, guarded, standing-past, state-follow, over-follow}
+use Rattle.promises.proofs.Listed.{listed-past}
 use Rattle.promises.proofs.Turns.{turn-past}
 
 -- what collect tells is the worker's answer and its number of steps
@@ -200,6 +201,7 @@ demand-3 p =
                 (over-told (rulesOf e₀) (sceneOf (x .state)) (taleOf x) (s .next .st) (s .next .ok) w
                 (tells (x .state) w NotTaken n e .state))
                 .none l;
+            listed = listed-past p;
             once = s .next .ok .once;
             only = s .next .ok .only;
             turn = turn-past p;

@@ -30,6 +30,7 @@ pub mod Simulation
 pub mod Counted
 pub mod Standing
 pub mod Turns
+pub mod Listed
 pub mod Helped
 pub mod Uncut
 pub mod Demand

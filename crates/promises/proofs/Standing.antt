@@ -112,7 +112,7 @@ state-follow x (c ∷ cs) =
 -- what each call keeps of a scene and its tale, a history keeps
 pub keeps-follow :
     (K : Rules) (P : Scene → Tale → Type 0) →
-    ((E E′ : Scene) (T T′ : Tale) (S S′ : ℕ → ℕ) → P E T → Simulated K E T S E′ T′ S′ → P E′ T′) →
+    ((E E′ : Scene) (T T′ : Tale) (S S′ : ℕ → ℕ) → Next K E T → P E T → Simulated K E T S E′ T′ S′ → P E′ T′) →
     (x : Sofar) (h : List Call) → Standing K x → AllRecords h → P (sceneOf (x .state)) (taleOf x) →
     P (sceneOf (follow x h .state)) (taleOf (follow x h))
 unfolding follow
@@ -120,13 +120,13 @@ keeps-follow K P keeps x [] s b v = v
 keeps-follow K P keeps x (c ∷ cs) s b v =
     let cut = cut-records c cs b in
     let sim = simulates K x (s .good) (s .under) (ranged K _ _ (s .next .st) (s .next .ok)) c in
-    keeps-follow K P keeps (thenOf x c) cs (standing-then K x c s (cut .0)) (cut .1) (keeps _ _ _ _ _ _ v sim)
+    keeps-follow K P keeps (thenOf x c) cs (standing-then K x c s (cut .0)) (cut .1) (keeps _ _ _ _ _ _ (s .next) v sim)
 
 pub over-follow :
     (K : Rules) (x : Sofar) (h : List Call) (m : ℕ) → Standing K x → AllRecords h →
     Over (sceneOf (x .state)) (taleOf x) m → Over (sceneOf (follow x h .state)) (taleOf (follow x h)) m
 over-follow K x h m =
-    keeps-follow K (λ E T. Over E T m) (λ E E′ T T′ S S′ v sim. over-then K E E′ T T′ S S′ m v sim) x h
+    keeps-follow K (λ E T. Over E T m) (λ E E′ T T′ S S′ n v sim. over-then K E E′ T T′ S S′ m v sim) x h
 
 -- from a setup on
 pub standing-start : (rec : List ℕ) → AllBytes rec → Standing (rulesOf (setupOf rec .engine)) (start (setupOf rec .engine))

@@ -106,5 +106,5 @@ pub turn-past :
 turn-past p =
     let e = setupOf (p .setup) .engine in
     let from : ℕ → ℕ = λ l. lockAt e l .turn in
-    keeps-follow (rulesOf e) (λ E T. Turned from E T) (λ E E′ T T′ S S′ h sim. turned-then (rulesOf e) from E E′ T T′ S S′ h sim)
+    keeps-follow (rulesOf e) (λ E T. Turned from E T) (λ E E′ T T′ S S′ n h sim. turned-then (rulesOf e) from E E′ T T′ S S′ h sim)
     (start e) (p .calls) (standing-start (p .setup) (p .setupBytes)) (p .callsBytes) (λ l. omega arith)

@@ -274,7 +274,10 @@ pub record Promised (e₀ : Engine) (x : Sofar) : Type 0 where
   pub notTaken :
       (w n : ℕ) → collectOf (x .state) w .told ≡ CollectTold.Answered NotTaken n → (more : List Call) → AllRecords more →
       (l : ℕ) → times (x .tries w .number) (follow x more .won l) ≡ 0
-  -- a try stands in the lists once at most, and a lock's turn is its starting turn and one for each try of its list
+  -- the tries of a lock's list began on that lock; a try stands in the lists once at most; and a lock's turn is its starting turn and one
+  -- for each try of its list
+  pub listed :
+      (l : ℕ) (later : List Try) (t : Try) (earlier : List Try) → x .won l ≡ later ++ (t ∷ earlier) → t .lock ≡ l
   pub once : (n l : ℕ) → times n (x .won l) ≤ 1
   pub only : (n l m : ℕ) → 1 ≤ times n (x .won l) → 1 ≤ times n (x .won m) → l ≡ m
   pub turn : (l : ℕ) → lockAt (x .state) l .turn ≡ lockAt e₀ l .turn + length (x .won l)
