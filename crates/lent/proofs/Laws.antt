@@ -1,39 +1,32 @@
 -- The three parts of a call's contract: what it tells, the numbers, and the state that they say.
 use Prim.Native.Nat.{ℕ, _<_}
 use mathlib.Core.List.{List}
-use mathlib.Core.Path.{_≡_, refl, _∙_, ap}
-use lib.ListN.{getD}
+use mathlib.Core.Path.{_≡_, refl, _∙_, ap, sym}
 use borrow.Author.Tests.{lt-leb}
 use Rattle.parts.specs.Numbers.{workers}
-use Rattle.parts.specs.Parts.{instr0, entry0}
 use Rattle.parts.specs.declared.Answer.{Answer}
-use Rattle.parts.specs.declared.Entry.{Entry}
-use Rattle.parts.specs.declared.Instr.{Instr}
-use Rattle.parts.specs.declared.LockWord.{LockWord}
 use Rattle.parts.specs.declared.Refusal.{Refusal}
+use Rattle.parts.specs.declared.Refusal.the-variants.{WorkerIdle, NotCollected}
 use Rattle.parts.specs.declared.Told.{Told}
 use Rattle.parts.specs.declared.Told.the-variants.{Accepted, Refused}
-use Rattle.parts.specs.declared.Word.{Word}
-use Rattle.steps.specs.Try.{effectOf}
 use Rattle.steps.specs.Worker as worker
 use Rattle.steps.specs.Worker.{onState, collectedOf, droppedOf}
 use Rattle.steps.specs.declared.Point.{Point}
+use Rattle.steps.specs.declared.Point.the-variants.{Look, Grab, LookAgain, ReadMark, Read, Commit, Swap, Mark, Release}
 use Rattle.steps.specs.declared.State.{State}
 use Rattle.steps.specs.declared.State.the-variants.{Idle, UnderWay, Finished}
-use Rattle.steps.specs.declared.View.{View}
 use Rattle.steps.specs.declared.Worker.{Worker}
 use Rattle.engine.specs.Calls.{outcomeOf, stepTold, stepOf, collectTold, collectOf, dropTold, dropOf}
-use Rattle.engine.specs.State.{sheet0, workerAt, lockAt, wordAt, withWorker}
-use Rattle.engine.specs.Step.{placesOf, viewAt, putAt, steppedOf}
+use Rattle.engine.specs.State.{workerAt, withWorker}
+use Rattle.engine.specs.Step.{steppedOf}
 use Rattle.engine.specs.declared.CollectTold.{CollectTold}
 use Rattle.engine.specs.declared.Collected.{Collected}
 use Rattle.engine.specs.declared.Engine.{Engine}
 use Rattle.engine.specs.declared.Outcome.{Outcome}
-use Rattle.engine.specs.declared.Places.{Places}
-use Rattle.engine.specs.declared.Sheet.{Sheet}
-use Rattle.cells.specs.Layout.{unpack, putWorker, putLock, putWord, putEntry}
-use Rattle.cells.specs.State.{withLock, withWord, withEntry}
-use Rattle.lent.specs.Calls.{numbersOf, withMark, putMark, withShared, putShared, scatterOf, steppedNumbers, stepNumbers, collectNumbers, dropNumbers}
+use Rattle.cells.specs.Layout.{unpack, putWorker}
+use Rattle.lent.specs.Calls.{numbersOf, onwardNumbers, markNumbers, stepNumbers, collectNumbers, dropNumbers}
+use Rattle.lent.specs.Moves.{numberAt, runNow, readNow, seenNow, saidNow, lookNumbers, grabNumbers, againNumbers, readMarkNumbers, readNumbers, commitNumbers, swapNumbers, releaseNumbers}
+use Rattle.lent.proofs.Stepping.{at-idle, at-look, at-grab, at-look-again, at-read-mark, at-read, at-commit, at-swap, at-mark, at-release, at-end}
 
 -- what a call tells, the numbers that it leaves, and the state that they say: those of the outcome x and the numbers n
 abbrev pub Gives : Told → List ℕ → Outcome → List ℕ → Type 0
@@ -72,79 +65,6 @@ end-of k w y x a f g h q e = simp (← h, q) e
 
 pub ruleset states = (idle-of, way-of, end-of)
 
--- pieces of a step written, one after the other: the numbers, and the state
-pub shared :
-    (s s₁ s₂ s₃ : List ℕ) (at : Places) (v : View) →
-    s₁ ≡ putLock s (at .lock) (v .lock) →
-    s₂ ≡ putWord s₁ (at .word) (v .word) →
-    s₃ ≡ putEntry s₂ (at .entry) (v .entry) →
-    s₃ ≡ putShared s at v
-unfolding putShared
-shared s s₁ s₂ s₃ at v e₁ e₂ e₃ = simp (e₃, e₂, e₁)
-
-pub shared-state :
-    (e e₁ e₂ e₃ : Engine) (at : Places) (v : View) →
-    e₁ ≡ withLock e (at .lock) (v .lock) →
-    e₂ ≡ withWord e₁ (at .word) (v .word) →
-    e₃ ≡ withEntry e₂ (at .entry) (v .entry) →
-    e₃ ≡ withShared e at v
-shared-state e e₁ e₂ e₃ at v h₁ h₂ h₃ = simp (h₃, h₂, h₁)
-
-pub scattered :
-    (s s₁ s₂ s₃ : List ℕ) (at : Places) (v : View) →
-    s₁ ≡ putWorker s (at .worker) (v .worker) →
-    s₂ ≡ putShared s₁ at v →
-    s₃ ≡ putMark s₂ (at .sheet) (v .done) →
-    s₃ ≡ scatterOf s at v
-unfolding scatterOf
-scattered s s₁ s₂ s₃ at v e₁ e₂ e₃ = simp (e₃, e₂, e₁)
-
-pub scattered-state :
-    (e e₁ e₂ e₃ : Engine) (at : Places) (v : View) →
-    e₁ ≡ withWorker e (at .worker) (v .worker) →
-    e₂ ≡ withShared e₁ at v →
-    e₃ ≡ withMark e₂ (at .sheet) (v .done) →
-    e₃ ≡ putAt e at v
-unfolding putAt
-scattered-state e e₁ e₂ e₃ at v h₁ h₂ h₃ = simp (h₃, h₂, h₁)
-
--- the pieces of a step read
-pub gathered :
-    (e : Engine) (at : Places) (k : Worker) (lock : LockWord) (word : Word) (entry : Entry) (i : Instr) (sheet : Sheet) →
-    k ≡ workerAt e (at .worker) →
-    lock ≡ lockAt e (at .lock) →
-    word ≡ wordAt e (at .word) →
-    entry ≡ getD (e .entry) (at .entry) entry0 →
-    i ≡ getD (e .program) (at .instr) instr0 →
-    sheet ≡ getD (e .sheet) (at .sheet) sheet0 →
-    record { worker = k; lock = lock; word = word; entry = entry; instr = i; done = sheet .done } ≡ viewAt e at
-unfolding viewAt
-gathered e at k lock word entry i sheet a b c d f g = simp (a, b, c, d, f, g)
-
--- where the worker stands
-pub worker-at : (e : Engine) (w : ℕ) (p : Point) (k : Worker) (at : Places) → k ≡ workerAt e w → at ≡ placesOf e w p → k ≡ workerAt e (at .worker)
-unfolding placesOf
-worker-at e w p k at h q = simp q h
-
--- the pieces read, stepped and written
-pub stepped :
-    (s s′ : List ℕ) (w : ℕ) (p : Point) (at : Places) (v next : View) →
-    at ≡ placesOf (unpack s) w p →
-    v ≡ viewAt (unpack s) at →
-    next ≡ effectOf p v →
-    s′ ≡ scatterOf s at next →
-    s′ ≡ steppedNumbers s w p
-stepped s s′ w p at v next a b c d = simp (d, c, b, a)
-
-pub stepped-state :
-    (e e′ : Engine) (w : ℕ) (p : Point) (at : Places) (v next : View) →
-    at ≡ placesOf e w p →
-    v ≡ viewAt e at →
-    next ≡ effectOf p v →
-    e′ ≡ putAt e at next →
-    e′ ≡ steppedOf e w p
-stepped-state e e′ w p at v next a b c d = simp (d, c, b, a)
-
 -- A refused call, by the first row that refuses; an accepted one, by what is known of its worker k.
 pub step-refused :
     (r : Refusal) (s : List ℕ) (w : ℕ) →
@@ -153,15 +73,141 @@ pub step-refused :
 unfolding stepOf stepNumbers
 step-refused r s w h = refused r s _ _ _ h
 
+-- an accepted step, by the worker's tag
 pub step-done :
     (s s′ : List ℕ) (w : ℕ) (p : Point) →
     w < workers →
     workerAt (unpack s) w .state ≡ UnderWay p →
-    s′ ≡ steppedNumbers s w p →
+    s′ ≡ onwardNumbers s w →
     unpack s′ ≡ steppedOf (unpack s) w p →
     Gives Accepted s′ (stepOf (unpack s) w) (stepNumbers s w)
 unfolding stepOf stepNumbers worker.stepTold
 step-done s s′ w p h q n u = simp (lt-leb workers w h, q) (refl, (n, u))
+
+-- a worker that is under way at no point
+pub step-idle :
+    (s : List ℕ) (w tag : ℕ) → w < workers → tag ≡ numberAt s w 0 → tag ≡ 0 →
+    Gives (Refused WorkerIdle) s (stepOf (unpack s) w) (stepNumbers s w)
+unfolding worker.stepTold
+step-idle s w tag h e a =
+    step-refused WorkerIdle s w (simp (lt-leb workers w h, at-idle s w h (sym e ∙ a)))
+
+pub step-end :
+    (s : List ℕ) (w tag : ℕ) → w < workers → tag ≡ numberAt s w 0 →
+    (tag ≡ 0 → ⊥) → (tag ≡ 1 → ⊥) → (tag ≡ 2 → ⊥) → (tag ≡ 3 → ⊥) → (tag ≡ 4 → ⊥) → (tag ≡ 5 → ⊥) → (tag ≡ 6 → ⊥) → (tag ≡ 7 → ⊥) → (tag ≡ 8 → ⊥) → (tag ≡ 9 → ⊥) →
+    Gives (Refused NotCollected) s (stepOf (unpack s) w) (stepNumbers s w)
+unfolding worker.stepTold
+step-end s w tag h e n₀ n₁ n₂ n₃ n₄ n₅ n₆ n₇ n₈ n₉ =
+    step-refused NotCollected s w
+    (simp (lt-leb workers w h, at-end s w h (λ z. n₀ (e ∙ z)) (λ z. n₁ (e ∙ z)) (λ z. n₂ (e ∙ z)) (λ z. n₃ (e ∙ z)) (λ z. n₄ (e ∙ z)) (λ z. n₅ (e ∙ z)) (λ z. n₆ (e ∙ z)) (λ z. n₇ (e ∙ z)) (λ z. n₈ (e ∙ z)) (λ z. n₉ (e ∙ z))))
+
+pub step-look :
+    (s s′ : List ℕ) (w tag : ℕ) →
+    w < workers →
+    tag ≡ numberAt s w 0 →
+    tag ≡ 1 →
+    (s′ ≡ lookNumbers s w) × (unpack s′ ≡ steppedOf (unpack s) w Look) →
+    Gives Accepted s′ (stepOf (unpack s) w) (stepNumbers s w)
+unfolding onwardNumbers
+step-look s s′ w tag h e a g =
+    let z : numberAt s w 0 ≡ 1 = sym e ∙ a in
+    step-done s s′ w _ h (at-look s w h z) (simp z (g .0)) (g .1)
+
+pub step-grab :
+    (s s′ : List ℕ) (w tag : ℕ) →
+    w < workers →
+    tag ≡ numberAt s w 0 →
+    tag ≡ 2 →
+    (s′ ≡ grabNumbers s w) × (unpack s′ ≡ steppedOf (unpack s) w (Grab (numberAt s w 5))) →
+    Gives Accepted s′ (stepOf (unpack s) w) (stepNumbers s w)
+unfolding onwardNumbers
+step-grab s s′ w tag h e a g =
+    let z : numberAt s w 0 ≡ 2 = sym e ∙ a in
+    step-done s s′ w _ h (at-grab s w h z) (simp z (g .0)) (g .1)
+
+pub step-look-again :
+    (s s′ : List ℕ) (w tag : ℕ) →
+    w < workers →
+    tag ≡ numberAt s w 0 →
+    tag ≡ 3 →
+    (s′ ≡ againNumbers s w) × (unpack s′ ≡ steppedOf (unpack s) w (LookAgain (numberAt s w 5))) →
+    Gives Accepted s′ (stepOf (unpack s) w) (stepNumbers s w)
+unfolding onwardNumbers
+step-look-again s s′ w tag h e a g =
+    let z : numberAt s w 0 ≡ 3 = sym e ∙ a in
+    step-done s s′ w _ h (at-look-again s w h z) (simp z (g .0)) (g .1)
+
+pub step-read-mark :
+    (s s′ : List ℕ) (w tag : ℕ) →
+    w < workers →
+    tag ≡ numberAt s w 0 →
+    tag ≡ 4 →
+    (s′ ≡ readMarkNumbers s w) × (unpack s′ ≡ steppedOf (unpack s) w (ReadMark (seenNow s w) (numberAt s w 5))) →
+    Gives Accepted s′ (stepOf (unpack s) w) (stepNumbers s w)
+unfolding onwardNumbers
+step-read-mark s s′ w tag h e a g =
+    let z : numberAt s w 0 ≡ 4 = sym e ∙ a in
+    step-done s s′ w _ h (at-read-mark s w h z) (simp z (g .0)) (g .1)
+
+pub step-read :
+    (s s′ : List ℕ) (w tag : ℕ) →
+    w < workers →
+    tag ≡ numberAt s w 0 →
+    tag ≡ 5 →
+    (s′ ≡ readNumbers s w) × (unpack s′ ≡ steppedOf (unpack s) w (Read (runNow s w))) →
+    Gives Accepted s′ (stepOf (unpack s) w) (stepNumbers s w)
+unfolding onwardNumbers
+step-read s s′ w tag h e a g =
+    let z : numberAt s w 0 ≡ 5 = sym e ∙ a in
+    step-done s s′ w _ h (at-read s w h z) (simp z (g .0)) (g .1)
+
+pub step-commit :
+    (s s′ : List ℕ) (w tag : ℕ) →
+    w < workers →
+    tag ≡ numberAt s w 0 →
+    tag ≡ 6 →
+    (s′ ≡ commitNumbers s w) × (unpack s′ ≡ steppedOf (unpack s) w (Commit (runNow s w) (readNow s w))) →
+    Gives Accepted s′ (stepOf (unpack s) w) (stepNumbers s w)
+unfolding onwardNumbers
+step-commit s s′ w tag h e a g =
+    let z : numberAt s w 0 ≡ 6 = sym e ∙ a in
+    step-done s s′ w _ h (at-commit s w h z) (simp z (g .0)) (g .1)
+
+pub step-swap :
+    (s s′ : List ℕ) (w tag : ℕ) →
+    w < workers →
+    tag ≡ numberAt s w 0 →
+    tag ≡ 7 →
+    (s′ ≡ swapNumbers s w) × (unpack s′ ≡ steppedOf (unpack s) w (Swap (runNow s w) (readNow s w) (numberAt s w 14))) →
+    Gives Accepted s′ (stepOf (unpack s) w) (stepNumbers s w)
+unfolding onwardNumbers
+step-swap s s′ w tag h e a g =
+    let z : numberAt s w 0 ≡ 7 = sym e ∙ a in
+    step-done s s′ w _ h (at-swap s w h z) (simp z (g .0)) (g .1)
+
+pub step-mark :
+    (s s′ : List ℕ) (w tag : ℕ) →
+    w < workers →
+    tag ≡ numberAt s w 0 →
+    tag ≡ 8 →
+    (s′ ≡ markNumbers s w) × (unpack s′ ≡ steppedOf (unpack s) w (Mark (runNow s w) (saidNow s w))) →
+    Gives Accepted s′ (stepOf (unpack s) w) (stepNumbers s w)
+unfolding onwardNumbers
+step-mark s s′ w tag h e a g =
+    let z : numberAt s w 0 ≡ 8 = sym e ∙ a in
+    step-done s s′ w _ h (at-mark s w h z) (simp z (g .0)) (g .1)
+
+pub step-release :
+    (s s′ : List ℕ) (w tag : ℕ) →
+    w < workers →
+    tag ≡ numberAt s w 0 →
+    tag ≡ 9 →
+    (s′ ≡ releaseNumbers s w) × (unpack s′ ≡ steppedOf (unpack s) w (Release (runNow s w) (saidNow s w))) →
+    Gives Accepted s′ (stepOf (unpack s) w) (stepNumbers s w)
+unfolding onwardNumbers
+step-release s s′ w tag h e a g =
+    let z : numberAt s w 0 ≡ 9 = sym e ∙ a in
+    step-done s s′ w _ h (at-release s w h z) (simp z (g .0)) (g .1)
 
 pub drop-refused :
     (r : Refusal) (s : List ℕ) (w : ℕ) →

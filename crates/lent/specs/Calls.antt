@@ -1,21 +1,20 @@
 -- The numbers after a call, by what the engine's definitions say of the state that they say.
-use Prim.Native.Nat.{ℕ}
-use mathlib.Core.Bool.{Bool}
+use Prim.Native.Nat.{ℕ, _%_}
+use mathlib.Core.Bool.{Bool, true}
 use mathlib.Core.List.{List}
+use lib.Dec.{eqb}
 use lib.ListN.{getD}
+use Rattle.parts.specs.Numbers.{sheets}
+use Rattle.parts.specs.Pick.{pick}
 use Rattle.parts.specs.Told.{onTold}
 use Rattle.parts.specs.declared.Told.{Told}
-use Rattle.steps.specs.Try.{effectOf}
-use Rattle.steps.specs.Worker.{onState, collectedOf, droppedOf}
-use Rattle.steps.specs.declared.Point.{Point}
-use Rattle.steps.specs.declared.View.{View}
+use Rattle.steps.specs.Worker.{collectedOf, droppedOf}
 use Rattle.engine.specs.Calls.{stepTold, collectTold, dropTold}
 use Rattle.engine.specs.State.{sheet0, workerAt}
-use Rattle.engine.specs.Step.{placesOf, viewAt}
 use Rattle.engine.specs.declared.Engine.{Engine}
-use Rattle.engine.specs.declared.Places.{Places}
-use Rattle.cells.specs.Layout.{unpack, putWorker, putLock, putWord, putEntry, putSheet}
-use Rattle.cells.specs.State.{withLock, withWord, withSheet, withEntry}
+use Rattle.cells.specs.Layout.{unpack, putWorker, putSheet}
+use Rattle.cells.specs.State.{withSheet}
+use Rattle.lent.specs.Moves.{numberAt, runNow, releaseMove, lookNumbers, grabNumbers, againNumbers, readMarkNumbers, readNumbers, commitNumbers, swapNumbers, releaseNumbers}
 
 -- "A refusal .. changes nothing": what was told of a call on the numbers s, and the numbers where it was accepted
 abbrev pub numbersOf : List ℕ → Told → List ℕ → List ℕ
@@ -28,24 +27,20 @@ withMark e i done = withSheet e i (record { length = getD (e .sheet) i sheet0 .l
 abbrev pub putMark : List ℕ → ℕ → Bool → List ℕ
 putMark s i done = putSheet s i (record { length = getD (unpack s .sheet) i sheet0 .length; done = done })
 
--- the pieces of a step that workers share
-abbrev pub withShared : Engine → Places → View → Engine
-withShared e at v = withEntry (withWord (withLock e (at .lock) (v .lock)) (at .word) (v .word)) (at .entry) (v .entry)
+unfoldable pub markNumbers : List ℕ → ℕ → List ℕ
+markNumbers s w = putMark (releaseMove s w .numbers) (runNow s w .sheet % sheets) true
 
-unfoldable pub putShared : List ℕ → Places → View → List ℕ
-putShared s at v = putEntry (putWord (putLock s (at .lock) (v .lock)) (at .word) (v .word)) (at .entry) (v .entry)
-
--- all that a step can change
-unfoldable pub scatterOf : List ℕ → Places → View → List ℕ
-scatterOf s at v = putMark (putShared (putWorker s (at .worker) (v .worker)) at v) (at .sheet) (v .done)
-
--- one step of worker w, which is at point p
-abbrev pub steppedNumbers : List ℕ → ℕ → Point → List ℕ
-steppedNumbers s w p =
-    scatterOf s (placesOf (unpack s) w p) (effectOf p (viewAt (unpack s) (placesOf (unpack s) w p)))
-
-abbrev pub onwardNumbers : List ℕ → ℕ → List ℕ
-onwardNumbers s w = onState (workerAt (unpack s) w .state) s (λ p. steppedNumbers s w p) (λ x. s)
+-- an accepted step, by the worker's tag
+unfoldable pub onwardNumbers : List ℕ → ℕ → List ℕ
+onwardNumbers s w =
+    pick (eqb (numberAt s w 0) 1) (lookNumbers s w)
+    (pick (eqb (numberAt s w 0) 2) (grabNumbers s w)
+    (pick (eqb (numberAt s w 0) 3) (againNumbers s w)
+    (pick (eqb (numberAt s w 0) 4) (readMarkNumbers s w)
+    (pick (eqb (numberAt s w 0) 5) (readNumbers s w)
+    (pick (eqb (numberAt s w 0) 6) (commitNumbers s w)
+    (pick (eqb (numberAt s w 0) 7) (swapNumbers s w)
+    (pick (eqb (numberAt s w 0) 8) (markNumbers s w) (releaseNumbers s w))))))))
 
 unfoldable pub stepNumbers : List ℕ → ℕ → List ℕ
 stepNumbers s w = numbersOf s (stepTold (unpack s) w) (onwardNumbers s w)

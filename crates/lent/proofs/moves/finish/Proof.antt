@@ -1,0 +1,17 @@
+-- The numbers are written one after the other.
+use borrow.Author.Needs.{needs}
+use Rattle.lent.proofs.Moving.{finished}
+use Rattle.lent.proofs.moves.finish.Statement.{statement}
+use Rattle.lent.proofs.moves.finish.Tie as tie
+
+pub finish-spec : {M : Type 1} → statement M
+finish-spec =
+    tie.close
+    (tie.spec
+    (λ c κs. search needs)
+    (λ c κs. search needs)
+    (λ c κs. search needs)
+    (λ c κs. search needs)
+    (λ c κs. search needs)
+    (λ c. search needs)
+    (λ c. search finished))

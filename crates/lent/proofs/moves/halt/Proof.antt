@@ -1,0 +1,17 @@
+-- The numbers are written one after the other.
+use borrow.Author.Needs.{needs}
+use Rattle.lent.proofs.Moving.{halted}
+use Rattle.lent.proofs.moves.halt.Statement.{statement}
+use Rattle.lent.proofs.moves.halt.Tie as tie
+
+pub halt-spec : {M : Type 1} → statement M
+halt-spec =
+    tie.close
+    (tie.spec
+    (λ c κs. search needs)
+    (λ c κs. search needs)
+    (λ c κs. search needs)
+    (λ c κs. search needs)
+    (λ c κs. search needs)
+    (λ c. search needs)
+    (λ c. search halted))

@@ -1,0 +1,17 @@
+-- The numbers are written one after the other.
+use borrow.Author.Needs.{needs}
+use Rattle.lent.proofs.Moving.{passed}
+use Rattle.lent.proofs.moves.pass.Statement.{statement}
+use Rattle.lent.proofs.moves.pass.Tie as tie
+
+pub pass-spec : {M : Type 1} → statement M
+pass-spec =
+    tie.close
+    (tie.spec
+    (λ c κs. search needs)
+    (λ c κs. search needs)
+    (λ c κs. search needs)
+    (λ c κs. search needs)
+    (λ c κs. search needs)
+    (λ c. search needs)
+    (λ c. search passed))

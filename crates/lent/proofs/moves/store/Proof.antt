@@ -1,0 +1,16 @@
+-- The numbers are written one after the other.
+use borrow.Author.Needs.{needs}
+use Rattle.lent.proofs.Moving.{stored-on}
+use Rattle.lent.proofs.moves.store.Statement.{statement}
+use Rattle.lent.proofs.moves.store.Tie as tie
+
+pub store-spec : {M : Type 1} → statement M
+store-spec =
+    tie.close
+    (tie.spec
+    (λ c κs. search needs)
+    (λ c κs. search needs)
+    (λ c κs. search needs)
+    (λ c κs. search needs)
+    (λ c. search needs)
+    (λ c. search stored-on))
