@@ -8,7 +8,7 @@ use native.Mathlib.Omega.{arith}
 use lib.ListN.{length, getD, take, drop, set, replicate, length-drop, length-map, drop-of-length-le}
 use lib.Seq.{drop-cons, drop-drop, getD-drop, getD-take, length-take-le, take-all}
 use Rattle.parts.specs.Lay.{lay}
-use Rattle.parts.specs.declared.Holder.the-variants.{Free, Sheet}
+use Rattle.parts.specs.declared.Holder.the-variants.{Free, By}
 use Rattle.parts.specs.declared.LockWord.{LockWord}
 use Rattle.parts.specs.declared.Instr.{Instr}
 use Rattle.parts.specs.declared.Refusal.the-variants.{Held}
@@ -218,7 +218,7 @@ held-turn goal locks n j d g e h k =
 pub held-stop :
     (goal : Told) (locks : List LockWord) (n j s : ℕ) (d : LockWord) →
     goal ≡ heldTold (drop j (take n locks)) j →
-    getD locks j d .holder ≡ Sheet s →
+    getD locks j d .holder ≡ By s →
     j < n →
     n ≤ length locks →
     Refused (Held j) ≡ goal

@@ -11,12 +11,12 @@ ghost use Rattle.records.specs.Job.{instrsOf};
 ghost use Rattle.arrays.specs.Fresh.{wordsFrom, freeAt, guardsOf};
 use parts::ENTRIES;
 use parts::Entry;
+use parts::Fill;
 use parts::Holder;
 use parts::INSTRUCTIONS;
 use parts::Instr;
 use parts::LOCKS;
 use parts::LockWord;
-use parts::Slot;
 use parts::WORDS;
 use parts::Word;
 
@@ -71,7 +71,7 @@ pub fn log_emptied(mut log: [Entry; ENTRIES], base: usize) -> [Entry; ENTRIES]
 {
     let mut e: usize = 0;
     while e < INSTRUCTIONS {
-        log[base + e] = Entry { slot: Slot::Empty };
+        log[base + e] = Entry { fill: Fill::Empty };
         e += 1;
     }
     log

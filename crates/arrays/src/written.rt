@@ -84,7 +84,7 @@ pub fn held_told(locks: [LockWord; LOCKS], n: usize) -> Told
                 j += 1;
                 continue;
             }
-            Holder::Sheet(_) => return Told::Refused(Refusal::Held(j)),
+            Holder::By(_) => return Told::Refused(Refusal::Held(j)),
         }
     }
     Told::Accepted

@@ -10,20 +10,22 @@ use Rattle.parts.specs.Told.{answerNumber}
 use Rattle.parts.specs.declared.Answer.the-variants.{RanYes, RanNo, NotTaken}
 use Rattle.parts.specs.declared.Answer.{Answer}
 use Rattle.parts.specs.declared.Entry.{Entry}
+use Rattle.parts.specs.declared.Fill.the-variants.{Empty, Filled}
+use Rattle.parts.specs.declared.Fill.{Fill}
 use Rattle.parts.specs.declared.Holder.{Holder}
+use Rattle.parts.specs.declared.Holder.the-variants.{Free, By}
 use Rattle.parts.specs.declared.Instr.{Instr}
 use Rattle.parts.specs.declared.LockWord.{LockWord}
-use Rattle.parts.specs.declared.Slot.the-variants.{Empty, Filled}
-use Rattle.parts.specs.declared.Slot.{Slot}
 use Rattle.parts.specs.declared.Word.{Word}
-use Rattle.steps.specs.declared.Point.the-variants.{Look, Grab, LookAgain, ReadMark, Read, Commit, Swap, Mark, Release}
+use Rattle.steps.specs.declared.Point.the-variants.{Look, Grab, LookAgain, ReadMark}
 use Rattle.steps.specs.declared.Point.{Point}
 use Rattle.steps.specs.declared.Run.{Run}
+use Rattle.steps.specs.declared.Stage.the-variants.{Read, Commit, Swap, Mark, Release}
 use Rattle.steps.specs.declared.State.the-variants.{Idle, UnderWay, Finished}
 use Rattle.steps.specs.declared.State.{State}
 use Rattle.steps.specs.declared.Worker.{Worker}
 use Rattle.engine.specs.declared.Sheet.{Sheet}
-use Rattle.cells.specs.Codes.{byteOf, flagOf, flagNumber, holderOf, holderNumber, lockOf, lockNumbers, wordOf, wordNumbers, sheetOf, sheetNumbers, instrIn, instrNumber, entryOf, entryNumbers, slotNumbers, runOf, answerOf, stateOf, workerOf, runNumbers, pointNumbers, stateNumbers, workerNumbers, HolderFits, TryFits, RunFits, PointFits, StateFits}
+use Rattle.cells.specs.Codes.{byteOf, flagOf, flagNumber, holderOf, holderNumber, lockOf, lockNumbers, wordOf, wordNumbers, sheetOf, sheetNumbers, instrIn, instrNumber, entryOf, entryNumbers, fillNumbers, runOf, answerOf, stateOf, workerOf, runNumbers, pointNumbers, stateNumbers, workerNumbers, HolderFits, TryFits, RunFits, PointFits, StateFits}
 use Rattle.cells.specs.Layout.{workerUsed}
 
 pub byte-back : (x : ℕ) → x < 256 → byteOf x ≡ x
@@ -34,8 +36,8 @@ flag-back true = refl
 flag-back false = refl
 
 holder-back : (h : Holder) → HolderFits h → holderOf (holderNumber h) ≡ h
-holder-back Holder.Free o = refl
-holder-back (Holder.Sheet s) o = simp (ne-eqb (s + 1) 0 (λ e. omega arith)) (ap Holder.Sheet (omega arith))
+holder-back Free o = refl
+holder-back (By s) o = simp (ne-eqb (s + 1) 0 (λ e. omega arith)) (ap By (omega arith))
 
 answer-back : (a : Answer) → answerOf (answerNumber a) ≡ a
 unfolding answerOf answerNumber
@@ -68,9 +70,9 @@ instr-back x p q r s =
     low a m n h e = omega arith
 
 pub entry-back : (x : Entry) → entryOf (entryNumbers x) ≡ x
-entry-back x = go (x .slot)
+entry-back x = go (x .fill)
   where
-    go : (h : Slot) → entryOf (slotNumbers h) ≡ record { slot = h }
+    go : (h : Fill) → entryOf (fillNumbers h) ≡ record { fill = h }
     go Empty = refl
     go (Filled r) = refl
 
@@ -91,11 +93,11 @@ point-back Look k o = refl
 point-back (Grab won) k o = refl
 point-back (LookAgain won) k o = refl
 point-back (ReadMark l won) k o = λ t. UnderWay (ReadMark (lock-back l o t) won)
-point-back (Read r) k o = λ t. UnderWay (Read (run-back k 5 0 0 0 r o t))
-point-back (Commit r x) k o = λ t. UnderWay (Commit (run-back k 6 (x .value) (x .count) 0 r o t) x)
-point-back (Swap r x new) k o = λ t. UnderWay (Swap (run-back k 7 (x .value) (x .count) new r o t) x new)
-point-back (Mark r b) k o = λ t. UnderWay (Mark (run-back k 8 0 0 (flagNumber b) r o t) (flag-back b t))
-point-back (Release r b) k o = λ t. UnderWay (Release (run-back k 9 0 0 (flagNumber b) r o t) (flag-back b t))
+point-back (Point.Run r Read) k o = λ t. UnderWay (Point.Run (run-back k 5 0 0 0 r o t) Read)
+point-back (Point.Run r (Commit x)) k o = λ t. UnderWay (Point.Run (run-back k 6 (x .value) (x .count) 0 r o t) (Commit x))
+point-back (Point.Run r (Swap x new)) k o = λ t. UnderWay (Point.Run (run-back k 7 (x .value) (x .count) new r o t) (Swap x new))
+point-back (Point.Run r (Mark b)) k o = λ t. UnderWay (Point.Run (run-back k 8 0 0 (flagNumber b) r o t) (Mark (flag-back b t)))
+point-back (Point.Run r (Release b)) k o = λ t. UnderWay (Point.Run (run-back k 9 0 0 (flagNumber b) r o t) (Release (flag-back b t)))
 
 state-back : (s : State) (k : Worker) → StateFits s → stateOf (stateNumbers s k) ≡ s
 unfolding stateOf
@@ -118,11 +120,11 @@ point-common Look k = run-common k _ _ _ _ _
 point-common (Grab won) k = run-common k _ _ _ _ _
 point-common (LookAgain won) k = run-common k _ _ _ _ _
 point-common (ReadMark l won) k = run-common k _ _ _ _ _
-point-common (Read r) k = run-common k _ _ _ _ _
-point-common (Commit r x) k = run-common k _ _ _ _ _
-point-common (Swap r x new) k = run-common k _ _ _ _ _
-point-common (Mark r b) k = run-common k _ _ _ _ _
-point-common (Release r b) k = run-common k _ _ _ _ _
+point-common (Point.Run r Read) k = run-common k _ _ _ _ _
+point-common (Point.Run r (Commit x)) k = run-common k _ _ _ _ _
+point-common (Point.Run r (Swap x new)) k = run-common k _ _ _ _ _
+point-common (Point.Run r (Mark b)) k = run-common k _ _ _ _ _
+point-common (Point.Run r (Release b)) k = run-common k _ _ _ _ _
 
 state-common : (s : State) (k : Worker) → Common (stateNumbers s k) k
 state-common Idle k = run-common k _ _ _ _ _
@@ -134,9 +136,9 @@ unfolding workerNumbers
 length-worker k = state-common (k .state) k .long
 
 pub length-entry : (x : Entry) → length (entryNumbers x) ≡ 3
-length-entry x = go (x .slot)
+length-entry x = go (x .fill)
   where
-    go : (h : Slot) → length (slotNumbers h) ≡ 3
+    go : (h : Fill) → length (fillNumbers h) ≡ 3
     go Empty = refl
     go (Filled r) = refl
 

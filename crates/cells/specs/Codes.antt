@@ -11,17 +11,20 @@ use Rattle.parts.specs.Told.{answerNumber}
 use Rattle.parts.specs.declared.Answer.the-variants.{RanYes, RanNo, NotTaken}
 use Rattle.parts.specs.declared.Answer.{Answer}
 use Rattle.parts.specs.declared.Entry.{Entry}
+use Rattle.parts.specs.declared.Fill.the-variants.{Empty, Filled}
+use Rattle.parts.specs.declared.Fill.{Fill}
 use Rattle.parts.specs.declared.Holder.{Holder}
+use Rattle.parts.specs.declared.Holder.the-variants.{Free, By}
 use Rattle.parts.specs.declared.Instr.{Instr}
 use Rattle.parts.specs.declared.LockWord.{LockWord}
 use Rattle.parts.specs.declared.Reading.{Reading}
 use Rattle.parts.specs.declared.Registers.{Registers}
-use Rattle.parts.specs.declared.Slot.the-variants.{Empty, Filled}
-use Rattle.parts.specs.declared.Slot.{Slot}
 use Rattle.parts.specs.declared.Word.{Word}
-use Rattle.steps.specs.declared.Point.the-variants.{Look, Grab, LookAgain, ReadMark, Read, Commit, Swap, Mark, Release}
+use Rattle.steps.specs.declared.Point.the-variants.{Look, Grab, LookAgain, ReadMark}
 use Rattle.steps.specs.declared.Point.{Point}
 use Rattle.steps.specs.declared.Run.{Run}
+use Rattle.steps.specs.declared.Stage.the-variants.{Read, Commit, Swap, Mark, Release}
+use Rattle.steps.specs.declared.Stage.{Stage}
 use Rattle.steps.specs.declared.State.the-variants.{Idle, UnderWay, Finished}
 use Rattle.steps.specs.declared.State.{State}
 use Rattle.steps.specs.declared.Worker.{Worker}
@@ -38,11 +41,11 @@ flagNumber b = pick b 1 0
 
 -- 0: free; s + 1: held by sheet s
 abbrev pub holderOf : ℕ → Holder
-holderOf x = pick (eqb x 0) Holder.Free (Holder.Sheet (byteOf (x - 1)))
+holderOf x = pick (eqb x 0) Free (By (byteOf (x - 1)))
 
 abbrev pub holderNumber : Holder → ℕ
-holderNumber Holder.Free = 0
-holderNumber (Holder.Sheet s) = s + 1
+holderNumber Free = 0
+holderNumber (By s) = s + 1
 
 -- turn, holder
 abbrev pub lockWordOf : ℕ → ℕ → LockWord
@@ -83,18 +86,18 @@ abbrev pub instrNumbers : Instr → List ℕ
 instrNumbers x = instrNumber x ∷ []
 
 -- 0: empty, 1: filled; value, count
-abbrev pub slotOf : ℕ → ℕ → ℕ → Slot
-slotOf filled value count = pick (eqb filled 0) Empty (Filled (record { value = value; count = count }))
+abbrev pub fillOf : ℕ → ℕ → ℕ → Fill
+fillOf filled value count = pick (eqb filled 0) Empty (Filled (record { value = value; count = count }))
 
-abbrev pub slotNumbers : Slot → List ℕ
-slotNumbers Empty = 0 ∷ 0 ∷ 0 ∷ []
-slotNumbers (Filled r) = 1 ∷ r .value ∷ r .count ∷ []
+abbrev pub fillNumbers : Fill → List ℕ
+fillNumbers Empty = 0 ∷ 0 ∷ 0 ∷ []
+fillNumbers (Filled r) = 1 ∷ r .value ∷ r .count ∷ []
 
 abbrev pub entryOf : List ℕ → Entry
-entryOf l = record { slot = slotOf (getD l 0 0) (getD l 1 0) (getD l 2 0) }
+entryOf l = record { fill = fillOf (getD l 0 0) (getD l 1 0) (getD l 2 0) }
 
 abbrev pub entryNumbers : Entry → List ℕ
-entryNumbers x = slotNumbers (x .slot)
+entryNumbers x = fillNumbers (x .fill)
 
 -- A worker's numbers: tag, lock, own, steps, sheet, won, next, place, r0, r1, r2, r3, value, count, new
 abbrev pub registersOf : List ℕ → Registers
@@ -125,11 +128,11 @@ stateOf l =
     (pick (eqb (getD l 0 0) 2) (UnderWay (Grab (getD l 5 0)))
     (pick (eqb (getD l 0 0) 3) (UnderWay (LookAgain (getD l 5 0)))
     (pick (eqb (getD l 0 0) 4) (UnderWay (ReadMark (lockWordOf (getD l 12 0) (getD l 4 0)) (getD l 5 0)))
-    (pick (eqb (getD l 0 0) 5) (UnderWay (Read (runOf l)))
-    (pick (eqb (getD l 0 0) 6) (UnderWay (Commit (runOf l) (readOf l)))
-    (pick (eqb (getD l 0 0) 7) (UnderWay (Swap (runOf l) (readOf l) (getD l 14 0)))
-    (pick (eqb (getD l 0 0) 8) (UnderWay (Mark (runOf l) (flagOf (getD l 14 0))))
-    (pick (eqb (getD l 0 0) 9) (UnderWay (Release (runOf l) (flagOf (getD l 14 0))))
+    (pick (eqb (getD l 0 0) 5) (UnderWay (Point.Run (runOf l) Read))
+    (pick (eqb (getD l 0 0) 6) (UnderWay (Point.Run (runOf l) (Commit (readOf l))))
+    (pick (eqb (getD l 0 0) 7) (UnderWay (Point.Run (runOf l) (Swap (readOf l) (getD l 14 0))))
+    (pick (eqb (getD l 0 0) 8) (UnderWay (Point.Run (runOf l) (Mark (flagOf (getD l 14 0)))))
+    (pick (eqb (getD l 0 0) 9) (UnderWay (Point.Run (runOf l) (Release (flagOf (getD l 14 0)))))
     (Finished (answerOf (getD l 14 0))))))))))))
 
 abbrev pub workerOf : List ℕ → Worker
@@ -146,16 +149,19 @@ abbrev pub seenNumbers : Worker → ℕ → ℕ → ℕ → ℕ → ℕ → List
 seenNumbers k tag sheet won value new =
     runNumbers k tag (record { sheet = sheet; won = won; next = 0; place = 0; registers = registers0 }) value 0 new
 
+abbrev pub stageNumbers : Stage → Run → Worker → List ℕ
+stageNumbers Read r k = runNumbers k 5 r 0 0 0
+stageNumbers (Commit x) r k = runNumbers k 6 r (x .value) (x .count) 0
+stageNumbers (Swap x new) r k = runNumbers k 7 r (x .value) (x .count) new
+stageNumbers (Mark b) r k = runNumbers k 8 r 0 0 (flagNumber b)
+stageNumbers (Release b) r k = runNumbers k 9 r 0 0 (flagNumber b)
+
 abbrev pub pointNumbers : Point → Worker → List ℕ
 pointNumbers Look k = seenNumbers k 1 0 0 0 0
 pointNumbers (Grab won) k = seenNumbers k 2 0 won 0 0
 pointNumbers (LookAgain won) k = seenNumbers k 3 0 won 0 0
 pointNumbers (ReadMark l won) k = seenNumbers k 4 (holderNumber (l .holder)) won (l .turn) 0
-pointNumbers (Read r) k = runNumbers k 5 r 0 0 0
-pointNumbers (Commit r x) k = runNumbers k 6 r (x .value) (x .count) 0
-pointNumbers (Swap r x new) k = runNumbers k 7 r (x .value) (x .count) new
-pointNumbers (Mark r b) k = runNumbers k 8 r 0 0 (flagNumber b)
-pointNumbers (Release r b) k = runNumbers k 9 r 0 0 (flagNumber b)
+pointNumbers (Point.Run r at) k = stageNumbers at r k
 
 abbrev pub stateNumbers : State → Worker → List ℕ
 stateNumbers Idle k = seenNumbers k 0 0 0 0 0
@@ -167,8 +173,8 @@ workerNumbers k = stateNumbers (k .state) k
 
 -- The bytes of a piece are bytes: a function that takes the piece by value knows it.
 abbrev pub HolderFits : Holder → Type 0
-HolderFits Holder.Free = Unit {0}
-HolderFits (Holder.Sheet s) = s < 256
+HolderFits Free = Unit {0}
+HolderFits (By s) = s < 256
 
 pub record TryFits (k : Worker) : Type 0 where
   pub lock : k .lock < 256
@@ -184,11 +190,7 @@ PointFits Look = Unit {0}
 PointFits (Grab won) = Unit {0}
 PointFits (LookAgain won) = Unit {0}
 PointFits (ReadMark l won) = HolderFits (l .holder)
-PointFits (Read r) = RunFits r
-PointFits (Commit r x) = RunFits r
-PointFits (Swap r x new) = RunFits r
-PointFits (Mark r b) = RunFits r
-PointFits (Release r b) = RunFits r
+PointFits (Point.Run r at) = RunFits r
 
 abbrev pub StateFits : State → Type 0
 StateFits Idle = Unit {0}

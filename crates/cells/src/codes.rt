@@ -4,13 +4,13 @@ ghost use mathlib.Core.Path.{_≡_};
 ghost use Prim.Native.Nat.{_+_, _≤_};
 ghost use lib.ListN.{length};
 ghost use Rattle.parts.specs.Lay.{lay};
-ghost use Rattle.cells.specs.Codes.{byteOf, flagOf, flagNumber, holderOf, holderNumber, lockWordOf, instrIn, instrNumber, slotOf, slotNumbers, answerOf, HolderFits};
+ghost use Rattle.cells.specs.Codes.{byteOf, flagOf, flagNumber, holderOf, holderNumber, lockWordOf, instrIn, instrNumber, fillOf, fillNumbers, answerOf, HolderFits};
 use parts::Answer;
+use parts::Fill;
 use parts::Holder;
 use parts::Instr;
 use parts::LockWord;
 use parts::Reading;
-use parts::Slot;
 
 // Numbers over those from `at` on.
 pub fn write(s: &mut [u32], at: usize, n: &[u32])
@@ -55,7 +55,7 @@ pub fn holder_of(x: u32) -> Holder
         return Holder::Free;
     }
     let s = byte(x - 1);
-    Holder::Sheet(s)
+    Holder::By(s)
 }
 
 pub fn holder_number(h: Holder) -> u32
@@ -63,7 +63,7 @@ pub fn holder_number(h: Holder) -> u32
 {
     match h {
         Holder::Free => 0,
-        Holder::Sheet(s) => (s as u32) + 1,
+        Holder::By(s) => (s as u32) + 1,
     }
 }
 
@@ -98,24 +98,24 @@ pub fn instr_number(x: Instr) -> u32
     x.op as u32 + 256 * (x.a as u32) + 65536 * (x.b as u32) + 16777216 * (x.c as u32)
 }
 
-pub fn slot_of(filled: u32, value: u32, count: u32) -> Slot
-    ensures { λ r. ⌜ r ≡ slotOf filled value count ⌝ }
+pub fn fill_of(filled: u32, value: u32, count: u32) -> Fill
+    ensures { λ r. ⌜ r ≡ fillOf filled value count ⌝ }
 {
     if filled == 0 {
-        return Slot::Empty;
+        return Fill::Empty;
     }
-    Slot::Filled(Reading {
+    Fill::Filled(Reading {
         value: value,
         count: count,
     })
 }
 
-pub fn slot_numbers(x: Slot) -> [u32; 3]
-    ensures { λ r. ⌜ r ≡ slotNumbers x ⌝ }
+pub fn fill_numbers(x: Fill) -> [u32; 3]
+    ensures { λ r. ⌜ r ≡ fillNumbers x ⌝ }
 {
     match x {
-        Slot::Empty => [0, 0, 0],
-        Slot::Filled(r) => [1, r.value, r.count],
+        Fill::Empty => [0, 0, 0],
+        Fill::Filled(r) => [1, r.value, r.count],
     }
 }
 

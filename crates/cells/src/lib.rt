@@ -207,15 +207,15 @@ pub fn get_entry(s: &[u32], i: usize) -> Entry
     ensures { λ r. ⌜ r ≡ getD (unpack (now (s .entry)) .entry) i entry0 ⌝ }
 {
     let at = ENTRY_BASE + i * ENTRY_WIDTH;
-    let slot = codes::slot_of(s[at + 0], s[at + 1], s[at + 2]);
-    Entry { slot: slot }
+    let fill = codes::fill_of(s[at + 0], s[at + 1], s[at + 2]);
+    Entry { fill: fill }
 }
 
 pub fn put_entry(s: &mut [u32], i: usize, x: Entry)
     requires { ⌜ (numbers ≤ length (now s)) × (i < entries) ⌝ }
     ensures { λ _. ⌜ (now (s .exit) ≡ putEntry (now (s .entry)) i x) × (unpack (now (s .exit)) ≡ withEntry (unpack (now (s .entry))) i x) ⌝ }
 {
-    let slot = x.slot;
-    let n = codes::slot_numbers(slot);
+    let fill = x.fill;
+    let n = codes::fill_numbers(fill);
     codes::write(s, ENTRY_BASE + i * ENTRY_WIDTH, &n);
 }

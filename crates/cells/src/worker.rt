@@ -2,7 +2,7 @@
 ghost use mathlib.Core.Path.{_≡_};
 ghost use Prim.Native.Nat.{_+_, _≤_};
 ghost use lib.ListN.{length};
-ghost use Rattle.cells.specs.Codes.{registersOf, runOf, readOf, stateOf, workerOf, runNumbers, seenNumbers, pointNumbers, workerNumbers, TryFits, RunFits, PointFits};
+ghost use Rattle.cells.specs.Codes.{registersOf, runOf, readOf, stateOf, workerOf, runNumbers, seenNumbers, stageNumbers, pointNumbers, workerNumbers, TryFits, RunFits, PointFits};
 ghost use Rattle.cells.specs.Layout.{workerUsed};
 ghost use Rattle.cells.specs.Pieces.{reads};
 use super::codes;
@@ -10,6 +10,7 @@ use parts::Reading;
 use parts::Registers;
 use steps::Point;
 use steps::Run;
+use steps::Stage;
 use steps::State;
 use steps::Worker;
 
@@ -68,11 +69,11 @@ pub fn state_at(s: &[u32], at: usize) -> State
         2 => State::UnderWay(Point::Grab(won)),
         3 => State::UnderWay(Point::LookAgain(won)),
         4 => State::UnderWay(Point::ReadMark(codes::lock_of(s[at + 12], s[at + 4]), won)),
-        5 => State::UnderWay(Point::Read(run_at(s, at))),
-        6 => State::UnderWay(Point::Commit(run_at(s, at), read_at(s, at))),
-        7 => State::UnderWay(Point::Swap(run_at(s, at), read_at(s, at), new)),
-        8 => State::UnderWay(Point::Mark(run_at(s, at), codes::flag(new))),
-        9 => State::UnderWay(Point::Release(run_at(s, at), codes::flag(new))),
+        5 => State::UnderWay(Point::Run(run_at(s, at), Stage::Read)),
+        6 => State::UnderWay(Point::Run(run_at(s, at), Stage::Commit(read_at(s, at)))),
+        7 => State::UnderWay(Point::Run(run_at(s, at), Stage::Swap(read_at(s, at), new))),
+        8 => State::UnderWay(Point::Run(run_at(s, at), Stage::Mark(codes::flag(new)))),
+        9 => State::UnderWay(Point::Run(run_at(s, at), Stage::Release(codes::flag(new)))),
         _ => State::Finished(codes::answer_of(new)),
     }
 }
@@ -152,6 +153,18 @@ pub fn seen_numbers(
     ]
 }
 
+pub fn stage_numbers(k: Worker, run: Run, at: Stage) -> [u32; WORKER_USED]
+    ensures { λ r. ⌜ (r ≡ stageNumbers at run k) × TryFits k × RunFits run ⌝ }
+{
+    match at {
+        Stage::Read => run_numbers(k, 5, run, 0, 0, 0),
+        Stage::Commit(x) => run_numbers(k, 6, run, x.value, x.count, 0),
+        Stage::Swap(x, new) => run_numbers(k, 7, run, x.value, x.count, new),
+        Stage::Mark(b) => run_numbers(k, 8, run, 0, 0, codes::flag_number(b)),
+        Stage::Release(b) => run_numbers(k, 9, run, 0, 0, codes::flag_number(b)),
+    }
+}
+
 pub fn point_numbers(k: Worker, p: Point) -> [u32; WORKER_USED]
     ensures { λ r. ⌜ (r ≡ pointNumbers p k) × TryFits k × PointFits p ⌝ }
 {
@@ -164,11 +177,7 @@ pub fn point_numbers(k: Worker, p: Point) -> [u32; WORKER_USED]
             let holder = codes::holder_number(h);
             seen_numbers(k, 4, holder, won, l.turn, 0)
         }
-        Point::Read(run) => run_numbers(k, 5, run, 0, 0, 0),
-        Point::Commit(run, x) => run_numbers(k, 6, run, x.value, x.count, 0),
-        Point::Swap(run, x, new) => run_numbers(k, 7, run, x.value, x.count, new),
-        Point::Mark(run, b) => run_numbers(k, 8, run, 0, 0, codes::flag_number(b)),
-        Point::Release(run, b) => run_numbers(k, 9, run, 0, 0, codes::flag_number(b)),
+        Point::Run(run, at) => stage_numbers(k, run, at),
     }
 }
 

@@ -124,7 +124,7 @@ fn lock_fields(l: LockWord) -> LockRead
             held: 0,
             sheet: 0,
         },
-        Holder::Sheet(s) => LockRead {
+        Holder::By(s) => LockRead {
             number: 0,
             place: 0,
             turn: l.turn,

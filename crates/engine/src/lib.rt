@@ -14,6 +14,7 @@ pub mod write;
 use parts::Answer;
 use parts::ENTRIES;
 use parts::Entry;
+use parts::Fill;
 use parts::Holder;
 use parts::INSTRUCTIONS;
 use parts::Instr;
@@ -23,7 +24,6 @@ use parts::LockWord;
 use parts::REGISTERS;
 use parts::Refusal;
 use parts::SHEETS;
-use parts::Slot;
 use parts::Told;
 use parts::WORDS;
 use parts::WORKERS;
@@ -151,7 +151,7 @@ impl Engine {
                 b: 0,
                 c: 0,
             }; ENTRIES],
-            entry: [Entry { slot: Slot::Empty }; ENTRIES],
+            entry: [Entry { fill: Fill::Empty }; ENTRIES],
             worker: [Worker {
                 state: State::Idle,
                 lock: 0,

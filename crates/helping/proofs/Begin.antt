@@ -9,9 +9,9 @@ use mathlib.Core.Bool.{Bool, true, false}
 use mathlib.Core.List.{List, []}
 use lib.Dec.{eqb}
 use Rattle.parts.specs.Pick.{pick}
-use Rattle.parts.specs.declared.Holder.the-variants.{Sheet}
+use Rattle.parts.specs.declared.Fill.{Fill}
+use Rattle.parts.specs.declared.Holder.the-variants.{By}
 use Rattle.parts.specs.declared.Instr.{Instr}
-use Rattle.parts.specs.declared.Slot.{Slot}
 use Rattle.steps.specs.Worker.{worker0, lookingOf}
 use Rattle.steps.specs.declared.Point.{Point}
 use Rattle.steps.specs.declared.State.the-variants.{UnderWay}
@@ -80,7 +80,7 @@ begin-ok K E T st o i l s code u f =
             sheet =
                 all-but (λ z. SheetOk K v′ (E .lock) z (put st s renewed z .kind)) s
                 (sheet-as K v′ (E .lock) s renewed (put-same st s renewed)
-                (put-same (E .done) s _, λ p. ap (λ (g : ℕ → Slot). g p) (put-same (E .log) s _)))
+                (put-same (E .done) s _, λ p. ap (λ (g : ℕ → Fill). g p) (put-same (E .log) s _)))
                 (λ z n. sheet-spared K v v′ (E .lock) (E .lock) z (spared z n) (o .sheet z));
             lock =
                 λ m.
@@ -91,7 +91,7 @@ begin-ok K E T st o i l s code u f =
                 (omega arith, (fresh, subst (Fine K l) (sym (put-same (E .program) s code)) f))
                 (λ m n.
                 frame K v v′ (E .worker m) (E .worker m .state)
-                (λ p e. passed _ (u .owned m p e)) (λ p z e h won. passed z (λ y. u .helped m p e (h ∙ ap Sheet y)))
+                (λ p e. passed _ (u .owned m p e)) (λ p z e h won. passed z (λ y. u .helped m p e (h ∙ ap By y)))
                 (o .worker m));
             named = λ m. named m (eqb m i);
             apart = λ a b p q. apart a b p q (eqb a i) (eqb b i) refl refl;

@@ -7,7 +7,7 @@ use mathlib.Core.Logic.{_≢_}
 use mathlib.Core.List.{List}
 use lib.ListN.{getD}
 use Rattle.parts.specs.declared.Holder.{Holder}
-use Rattle.parts.specs.declared.Holder.the-variants.{Free, Sheet}
+use Rattle.parts.specs.declared.Holder.the-variants.{Free, By}
 use Rattle.parts.specs.declared.LockWord.{LockWord}
 use Rattle.parts.specs.declared.Reading.{Reading}
 use Rattle.alone.specs.Jobs.{Try, givesOf}
@@ -45,7 +45,7 @@ module _ (K : Rules) (T T′ : Tale) (l t : ℕ) (list : T′ .won l ≡ T .won 
   pub lock-kept :
       (w w′ : ℕ → Reading) (st : ℕ → Status) (s : ℕ) (σ : Status) (h : Holder) →
       (h ≡ Free → (q : ℕ) → Guarded K l q → w′ q ≡ w q) →
-      (h ≡ Sheet s → HeldOk K T (st s) l t → Steady (st s) σ) → LockOk K w T st l t h →
+      (h ≡ By s → HeldOk K T (st s) l t → Steady (st s) σ) → LockOk K w T st l t h →
       LockOk K w′ T′ (put st s σ) l t h
   lock-kept w w′ st s σ Free f g o =
       record {
@@ -56,11 +56,11 @@ module _ (K : Rules) (T T′ : Tale) (l t : ℕ) (list : T′ .won l ≡ T .won 
             ap (λ (ts : List Try). getD (givesOf ts (K .values)) q 0) (sym list);
         counts = λ q z. rw (f refl q z) (o .counts q z);
       }
-  lock-kept w w′ st s σ (Sheet a) f g o =
+  lock-kept w w′ st s σ (By a) f g o =
       held-kept (st a) (put st s σ a)
       (put-case st s σ (Steady (st a)) a
       (λ e.
-      subst (λ (m : ℕ). Steady (st m) σ) (sym e) (g (ap Sheet e) (subst (λ (m : ℕ). HeldOk K T (st m) l t) e o)))
+      subst (λ (m : ℕ). Steady (st m) σ) (sym e) (g (ap By e) (subst (λ (m : ℕ). HeldOk K T (st m) l t) e o)))
       (λ n. record { kind = refl; job = refl; turn = refl }))
       o
 
@@ -107,17 +107,17 @@ module _ (K : Rules) (E : Scene) (T : Tale) (st : ℕ → Status) (o : Ok K E T 
 
   -- the words of a held lock are the ideal run's, and their counts are low
   pub held-word :
-      (l s : ℕ) → E .lock l .holder ≡ Sheet s → (q : ℕ) → Guarded K l q →
+      (l s : ℕ) → E .lock l .holder ≡ By s → (q : ℕ) → Guarded K l q →
       E .word q ≡ idealOf (st s .job) (st s .front) .words q
   held-word l s e q g =
-      let H = lock-at l (Sheet s) e in
+      let H = lock-at l (By s) e in
       sheet-at s current (H .kind) .2 .words q (g .0, g .1 ∙ sym (H .lock))
 
   pub held-counts :
-      (l s : ℕ) → E .lock l .holder ≡ Sheet s → (q : ℕ) → Guarded K l q →
+      (l s : ℕ) → E .lock l .holder ≡ By s → (q : ℕ) → Guarded K l q →
       E .word q .count ≤ (K .most - 1) * E .lock l .turn
   held-counts l s e q g =
-      let H = lock-at l (Sheet s) e in
+      let H = lock-at l (By s) e in
       let f = sheet-at s current (H .kind) .0 .fine in
       let J : Job = st s .job in
       let n : ℕ = st s .front in
@@ -131,20 +131,20 @@ module _ (K : Rules) (E : Scene) (T : Tale) (st : ℕ → Status) (o : Ok K E T 
         H .counts q g,
       )
 
-  pub won-held : (l s : ℕ) → E .lock l .holder ≡ Sheet s → Won (st s) l (E .lock l .turn)
+  pub won-held : (l s : ℕ) → E .lock l .holder ≡ By s → Won (st s) l (E .lock l .turn)
   won-held l s e =
-      let H = lock-at l (Sheet s) e in
+      let H = lock-at l (By s) e in
       record { is = λ u. won-kind current (omega arith) (sym (H .kind) ∙ u); lock = H .lock; turn = H .turned }
 
   -- two sheets don't hold one lock
   pub one-holder :
       (a b : ℕ) → st a .kind ≡ current → st b .kind ≡ current → st a .job .lock ≡ st b .job .lock → a ≡ b
   one-holder a b x y e =
-      let d : Sheet a ≡ Sheet b =
+      let d : By a ≡ By b =
       ap (λ (w : LockWord). w .holder) (sym (sheet-at a current x .1) ∙ ap (E .lock) e ∙ sheet-at b current y .1) in
       cc
 
-  pub held-by : (s l : ℕ) → st s .kind ≡ current → st s .job .lock ≡ l → E .lock l .holder ≡ Sheet s
+  pub held-by : (s l : ℕ) → st s .kind ≡ current → st s .job .lock ≡ l → E .lock l .holder ≡ By s
   held-by s l e z = ap (λ (m : ℕ). E .lock m .holder) (sym z) ∙ ap (λ (w : LockWord). w .holder) (sheet-at s current e .1)
 
   pub passes :

@@ -8,9 +8,9 @@ use native.Mathlib.Omega.{arith}
 use lib.Dec.{eqb}
 use borrow.Author.Tests.{eq-eqb, eqb-true}
 use Rattle.parts.specs.Pick.{pick}
+use Rattle.parts.specs.declared.Fill.{Fill}
+use Rattle.parts.specs.declared.Fill.the-variants.{Empty, Filled}
 use Rattle.parts.specs.declared.Reading.{Reading}
-use Rattle.parts.specs.declared.Slot.{Slot}
-use Rattle.parts.specs.declared.Slot.the-variants.{Empty, Filled}
 use Rattle.helping.specs.Machine.{Rules, Shared, target, put, heldOf, swapOf}
 use Rattle.helping.specs.Ideal.{Job, raised, idealOf, actIn, Touches, metIn, entryIn, FineJob, Inv, Moved}
 use Rattle.helping.proofs.Put.{put-case, put-same, put-other, put-idle}
@@ -44,11 +44,11 @@ abbrev pub logOf : Shared → ℕ → Reading → Shared
 logOf x i u = record { word = x .word; log = put (x .log) i (Filled u) }
 
 -- the first to commit instruction n fills its entry
-fill :
+fills :
     (K : Rules) (J : Job) → FineJob K J → (n : ℕ) (x : Shared) (u : Reading) → Inv K J n x → Touches (actIn J n) →
     u ≡ x .word (target (actIn J n)) → entryIn J x n ≡ Empty →
     Committed K J n x (logOf x (idealOf J n .place) u) n u
-fill K J f n x u v t e q =
+fills K J f n x u v t e q =
     let i = idealOf J n .place in
     let right : u ≡ metIn J n = e ∙ v .words _ (names-in K J f n t) in
     let now : put (x .log) i (Filled u) i ≡ Filled u = put-same (x .log) i (Filled u) in
@@ -76,14 +76,14 @@ fill K J f n x u v t e q =
 pub commit :
     (K : Rules) (J : Job) → FineJob K J → (n : ℕ) (x : Shared) (j : ℕ) (u : Reading) → Inv K J n x → j ≤ n →
     Touches (actIn J j) → (entryIn J x j ≡ Empty → u ≡ x .word (target (actIn J j))) →
-    (slot : Slot) → entryIn J x j ≡ slot →
-    Committed K J n x (logOf x (idealOf J j .place) (heldOf slot u)) j (heldOf slot u)
+    (fill : Fill) → entryIn J x j ≡ fill →
+    Committed K J n x (logOf x (idealOf J j .place) (heldOf fill u)) j (heldOf fill u)
 commit K J f n x j u v h t w Empty q =
     let z : j ≡ n = empty-here K J n j x v h t q in
     let v′ : Inv K J j x = subst (λ (k : ℕ). Inv K J k x) (sym z) v in
-    subst (λ (k : ℕ). Committed K J k x (logOf x (idealOf J j .place) u) j u) z (fill K J f j x u v′ t (w q) q)
+    subst (λ (k : ℕ). Committed K J k x (logOf x (idealOf J j .place) u) j u) z (fills K J f j x u v′ t (w q) q)
 commit K J f n x j u v h t w (Filled e) q =
-    subst (λ (l : ℕ → Slot). Committed K J n x (record { word = x .word; log = l }) j e)
+    subst (λ (l : ℕ → Fill). Committed K J n x (record { word = x .word; log = l }) j e)
     (sym (put-idle (x .log) (idealOf J j .place) (Filled e) (sym q)))
     (record { inv = v; now = q; right = filled-right K J n j x e v h t q; moved = still-there J n x })
 

@@ -6,13 +6,13 @@ use native.Mathlib.Nat.{eq-or-lt-of-le, le-refl, le-trans}
 use native.Mathlib.Omega.{arith}
 use lib.Dec.{eqb}
 use Rattle.parts.specs.Pick.{pick}
+use Rattle.parts.specs.declared.Fill.the-variants.{Empty, Filled}
 use Rattle.parts.specs.declared.Follows.{Follows}
 use Rattle.parts.specs.declared.Follows.the-variants as follows
 use Rattle.parts.specs.declared.Reading.{Reading}
-use Rattle.parts.specs.declared.Slot.the-variants.{Empty, Filled}
-use Rattle.steps.specs.declared.Point.{Point}
-use Rattle.steps.specs.declared.Point.the-variants.{Look, Grab, LookAgain, ReadMark, Read, Commit, Swap, Mark, Release}
 use Rattle.steps.specs.declared.Run.{Run}
+use Rattle.steps.specs.declared.Stage.{Stage}
+use Rattle.steps.specs.declared.Stage.the-variants.{Read, Commit, Swap, Mark, Release}
 use Rattle.helping.specs.Machine.{Rules, Shared, Pace, Act, fin, go, touch, target, put, ontoOf, loggedOf, heldOf, swapOf, readOf, followOf, commitOf, paceOf}
 use Rattle.helping.specs.Ideal.{Job, Ideal, raised, nextOf, idealOf, actIn, Touches, metIn, Follow, entryIn, Guarded, FineJob, Inv, At, In, Stands, Moved, Kept}
 use Rattle.helping.proofs.Put.{put-idle}
@@ -38,9 +38,9 @@ push K J n x ws v e f =
     }
 
 -- the state stays, and so does the instruction
-stay : (K : Rules) (J : Job) (n : ℕ) (x : Shared) (p : Point) → Inv K J n x → Stands J n x p →
-    Kept K J n x (record { shared = x; point = p })
-stay K J n x p v t = record { to = n; inv = v; stands = t; moved = still-there J n x }
+stay : (K : Rules) (J : Job) (n : ℕ) (x : Shared) (r : Run) (at : Stage) → Inv K J n x → Stands J n x r at →
+    Kept K J n x (record { shared = x; run = r; stage = at })
+stay K J n x r at v t = record { to = n; inv = v; stands = t; moved = still-there J n x }
 
 -- one step after another
 chain :
@@ -62,14 +62,14 @@ chain K J n x n′ x′ b m k =
     }
 
 -- the run at instruction j ends it; the words become ws
-module _ (K : Rules) (J : Job) (n j : ℕ) (x : Shared) (ws : ℕ → Reading) (p : Point) where
+module _ (K : Rules) (J : Job) (n j : ℕ) (x : Shared) (ws : ℕ → Reading) (r : Run) (at : Stage) where
   finish :
-      Inv K J n x → j ≤ n → In J (suc j) (record { word = ws; log = x .log }) p →
+      Inv K J n x → j ≤ n → In J (suc j) (record { word = ws; log = x .log }) r at →
       (Touches (actIn J j) → entryIn J x j ≡ Filled (metIn J j)) →
       (ws ≡ x .word) ⊎ Touches (actIn J j) →
       (j < n → ws ≡ x .word) →
       (j ≡ n → (q : ℕ) → Guarded K (J .lock) q → ws q ≡ idealOf J (suc j) .words q) →
-      Kept K J n x (record { shared = record { word = ws; log = x .log }; point = p })
+      Kept K J n x (record { shared = record { word = ws; log = x .log }; run = r; stage = at })
   finish v h i f c late now = go (eq-or-lt-of-le h)
     where
       still :
@@ -82,7 +82,7 @@ module _ (K : Rules) (J : Job) (n j : ℕ) (x : Shared) (ws : ℕ → Reading) (
           cc (f d)
 
       go :
-          (j ≡ n) ⊎ (j < n) → Kept K J n x (record { shared = record { word = ws; log = x .log }; point = p })
+          (j ≡ n) ⊎ (j < n) → Kept K J n x (record { shared = record { word = ws; log = x .log }; run = r; stage = at })
       go (inl z) =
           record {
             to = suc n;
@@ -116,10 +116,10 @@ module _ (K : Rules) (J : Job) (n j : ℕ) (x : Shared) (ws : ℕ → Reading) (
 module _ (K : Rules) (J : Job) (n : ℕ) (x : Shared) (j : ℕ) (v : Inv K J n x) (h : j ≤ n) where
   -- an instruction that changes no word
   plain :
-      (p : Point) → In J (suc j) x p → (Touches (actIn J j) → entryIn J x j ≡ Filled (metIn J j)) →
-      idealOf J (suc j) .words ≡ idealOf J j .words → Kept K J n x (record { shared = x; point = p })
-  plain p i g e =
-      finish K J n j x (x .word) p v h i g (inl refl) (λ z. refl)
+      (r : Run) (at : Stage) → In J (suc j) x r at → (Touches (actIn J j) → entryIn J x j ≡ Filled (metIn J j)) →
+      idealOf J (suc j) .words ≡ idealOf J j .words → Kept K J n x (record { shared = x; run = r; stage = at })
+  plain r at i g e =
+      finish K J n j x (x .word) r at v h i g (inl refl) (λ z. refl)
       (λ z q k.
       v .words q k ∙ ap (λ (m : ℕ). idealOf J m .words q) (sym z) ∙ ap (λ (w : ℕ → Reading). w q) (sym e))
 
@@ -127,12 +127,12 @@ module _ (K : Rules) (J : Job) (n : ℕ) (x : Shared) (j : ℕ) (v : Inv K J n x
       (r : Run) → At J j r → r .place ≡ idealOf J j .place → (a : Act) → actIn J j ≡ a →
       Kept K J n x (readOf a x r)
   unfolding idealOf nextOf
-  read-kept r at p (fin said) e = stay K J n x _ v (record { j = j; behind = h; inn = (at, p, e) })
+  read-kept r at p (fin said) e = stay K J n x _ _ v (record { j = j; behind = h; inn = (at, p, e) })
   read-kept r at p (go rs k) e =
-      plain _ (go-on J j r at x k rs e p) (λ t. absurd (subst Touches e t))
+      plain _ _ (go-on J j r at x k rs e p) (λ t. absurd (subst Touches e t))
       (ap (λ (a : Act). nextOf a (idealOf J j) .words) e)
   read-kept r at p (touch w g) e =
-      stay K J n x _ v
+      stay K J n x _ _ v
       (record {
         j = j;
         behind = h;
@@ -144,17 +144,17 @@ module _ (K : Rules) (J : Job) (f : FineJob K J) (n : ℕ) (x : Shared) (j : ℕ
   follow-kept :
       (r : Run) → At J j r → r .place ≡ suc (idealOf J j .place) → (x′ : Shared) (e : Reading) →
       Committed K J n x x′ j e → (s : Follows) → Follow (actIn J j) (e .value) s →
-      Kept K J n x (record { shared = x′; point = followOf s r e })
+      Kept K J n x (followOf s x′ r e)
   unfolding idealOf
   follow-kept r at p x′ e c (follows.Done rs) q =
       let g = subst (λ (u : Reading). Follow (actIn J j) (u .value) (follows.Done rs)) (c .right) q in
       chain K J n x n x′ _ (c .moved)
-      (plain K J n x′ j (c .inv) h _ (done-on J j r at x′ rs g p) (λ t. c .now ∙ ap Filled (c .right))
+      (plain K J n x′ j (c .inv) h _ _ (done-on J j r at x′ rs g p) (λ t. c .now ∙ ap Filled (c .right))
       (ap (λ (s : Ideal). s .words) (next-done (actIn J j) (idealOf J j) rs g)))
   follow-kept r at p x′ e c (follows.Swap new) q =
       let g = subst (λ (u : Reading). Follow (actIn J j) (u .value) (follows.Swap new)) (c .right) q in
       chain K J n x n x′ _ (c .moved)
-      (stay K J n x′ _ (c .inv)
+      (stay K J n x′ _ _ (c .inv)
       (record { j = j; behind = h; inn = (at, p, g, c .right, c .now ∙ ap Filled (c .right)) }))
 
   commit-kept :
@@ -178,14 +178,15 @@ module _ (K : Rules) (J : Job) (f : FineJob K J) (n : ℕ) (x : Shared) (j : ℕ
       Kept K J n x
       (record {
         shared = record { word = put (x .word) w (swapOf (x .word w) (metIn J j) new); log = x .log };
-        point = Read (ontoOf r 0 (r .registers));
+        run = ontoOf r 0 (r .registers);
+        stage = Read;
       })
   unfolding idealOf
   swap-kept r new at p g q =
       let w = target (actIn J j) in
       let t = touches (actIn J j) _ _ g in
       let here = v .words w (names-in K J f j t) in
-      finish K J n j x _ _ v h (swap-on J j r at x new g p) (λ k. q) (inr t)
+      finish K J n j x _ _ _ v h (swap-on J j r at x new g p) (λ k. q) (inr t)
       (λ z.
       put-idle (x .word) w _
       (swap-late (x .word w) (metIn J j) new
@@ -199,24 +200,20 @@ module _ (K : Rules) (J : Job) (f : FineJob K J) (n : ℕ) (x : Shared) (j : ℕ
       (v .words k d ∙ ap (λ (m : ℕ). idealOf J m .words k) (sym z)) ∙
       sym (ap (λ (s : Ideal). s .words k) (next-swap (actIn J j) (idealOf J j) new g)))
 
-  point-kept : (p : Point) → In J j x p → Kept K J n x (paceOf (J .code) x p)
+  stage-kept : (r : Run) (s : Stage) → In J j x r s → Kept K J n x (paceOf (J .code) x r s)
   unfolding paceOf
-  point-kept Look i = absurd i
-  point-kept (Grab seen) i = absurd i
-  point-kept (LookAgain won) i = absurd i
-  point-kept (ReadMark seen won) i = absurd i
-  point-kept (Read r) (at, p) =
+  stage-kept r Read (at, p) =
       subst (λ (a : Act). Kept K J n x (readOf a x r)) (sym (asks-same J j r at))
       (read-kept K J n x j v h r at p (actIn J j) refl)
-  point-kept (Commit r u) (at, p, t, w) =
+  stage-kept r (Commit u) (at, p, t, w) =
       subst (λ (a : Act). Kept K J n x (commitOf a x r u)) (sym (asks-same J j r at))
       (commit-kept r u at p t w (actIn J j) refl)
-  point-kept (Swap r e new) (at, p, g, d, q) =
+  stage-kept r (Swap e new) (at, p, g, d, q) =
       rw (asks-same J j r at, d) (swap-kept r new at p g q)
-  point-kept (Mark r said) i = stay K J n x _ v (record { j = j; behind = h; inn = i })
-  point-kept (Release r said) i = stay K J n x _ v (record { j = j; behind = h; inn = i })
+  stage-kept r (Mark said) i = stay K J n x _ _ v (record { j = j; behind = h; inn = i })
+  stage-kept r (Release said) i = stay K J n x _ _ v (record { j = j; behind = h; inn = i })
 
 pub step-kept :
-    (K : Rules) (J : Job) → FineJob K J → (n : ℕ) (x : Shared) (p : Point) → Inv K J n x → Stands J n x p →
-    Kept K J n x (paceOf (J .code) x p)
-step-kept K J f n x p v t = point-kept K J f n x (t .j) v (t .behind) p (t .inn)
+    (K : Rules) (J : Job) → FineJob K J → (n : ℕ) (x : Shared) (r : Run) (at : Stage) → Inv K J n x → Stands J n x r at →
+    Kept K J n x (paceOf (J .code) x r at)
+step-kept K J f n x r at v t = stage-kept K J f n x (t .j) v (t .behind) r at (t .inn)

@@ -4,7 +4,7 @@ use native.Mathlib.Omega.{arith}
 use mathlib.Core.Path.{_≡_, sym, ap, _∙_}
 use mathlib.Core.Logic.{_≢_}
 use Rattle.parts.specs.declared.Holder.{Holder}
-use Rattle.parts.specs.declared.Holder.the-variants.{Free, Sheet}
+use Rattle.parts.specs.declared.Holder.the-variants.{Free, By}
 use Rattle.helping.specs.Ok.{Kind, unwon, current, past}
 
 abbrev rank : Kind → ℕ
@@ -17,8 +17,8 @@ pub won-kind : (κ : Kind) → 0 < rank κ → κ ≢ unwon
 won-kind κ h e = omega (arith, h, ap rank e)
 
 -- a free lock names no sheet
-pub free-holds : (h : Holder) (s : ℕ) → h ≡ Free → h ≢ Sheet s
+pub free-holds : (h : Holder) (s : ℕ) → h ≡ Free → h ≢ By s
 free-holds h s a b =
-    let d : Free ≡ Sheet s = sym a ∙ b in
+    let d : Free ≡ By s = sym a ∙ b in
     let z : _≡_ {A = ℕ} 0 1 = cc in
     omega arith

@@ -5,11 +5,12 @@ use mathlib.Core.Logic.{_⊎_, inl, inr, _≢_}
 use mathlib.Core.Bool.{true}
 use mathlib.Core.List.{List}
 use Rattle.parts.specs.declared.Answer.the-variants.{RanYes, RanNo, NotTaken}
-use Rattle.parts.specs.declared.Holder.the-variants.{Sheet}
+use Rattle.parts.specs.declared.Holder.the-variants.{By}
 use Rattle.steps.specs.Places.{helpedOf}
 use Rattle.steps.specs.declared.Point.{Point}
-use Rattle.steps.specs.declared.Point.the-variants.{Look, Grab, LookAgain, ReadMark, Read, Commit, Swap, Mark, Release}
+use Rattle.steps.specs.declared.Point.the-variants.{Look, Grab, LookAgain, ReadMark}
 use Rattle.steps.specs.declared.Run.{Run}
+use Rattle.steps.specs.declared.Stage.{Stage}
 use Rattle.steps.specs.declared.State.{State}
 use Rattle.steps.specs.declared.State.the-variants.{Idle, UnderWay, Finished}
 use Rattle.steps.specs.declared.Worker.{Worker}
@@ -51,19 +52,19 @@ module _ (K : Rules) (v v′ : View) where
   lost-passed s l t p (inr w) = inr (p .pa (w .0), won-carried s l t p (w .1))
 
   runs-passed :
-      (own l : ℕ) (r : Run) (p : Point) → Passed v v′ own → Passed v v′ (r .sheet) → RunsAt v own l r p →
-      RunsAt v′ own l r p
-  runs-passed own l r p o q i =
+      (own l : ℕ) (r : Run) (at : Stage) → Passed v v′ own → Passed v v′ (r .sheet) → RunsAt v own l r at →
+      RunsAt v′ own l r at
+  runs-passed own l r at o q i =
       let s : ℕ = r .sheet in
       let c = q .won (i .0 .won .is) in (
         record { help = λ n. o .un (i .0 .help n); won = won-carried s l (r .won) q (i .0 .won) },
-        subst (λ (J : Job). Stands J (v′ .st s .front) (sharedAt v′ s) p) (sym (c .job))
-            (others (v .st s .job) (v .st s .front) (v′ .st s .front) (sharedAt v s) (sharedAt v′ s) p (c .moved) (i .1)),
+        subst (λ (J : Job). Stands J (v′ .st s .front) (sharedAt v′ s) r at) (sym (c .job))
+            (others (v .st s .job) (v .st s .front) (v′ .st s .front) (sharedAt v s) (sharedAt v′ s) r at (c .moved) (i .1)),
       )
 
   point-frame :
       (own l : ℕ) (p : Point) → Passed v v′ own →
-      ((t : ℕ) → helpedOf p ≡ Sheet t → v .st t .kind ≢ unwon → Passed v v′ t) → PointOk K v own l p →
+      ((t : ℕ) → helpedOf p ≡ By t → v .st t .kind ≢ unwon → Passed v v′ t) → PointOk K v own l p →
       PointOk K v′ own l p
   unfolding helpedOf
   point-frame own l Look q f i = (q .un (i .0), subst (Fine K l) (sym (q .program)) (i .1))
@@ -75,18 +76,14 @@ module _ (K : Rules) (v v′ : View) where
         itself = λ e. won-carried own l won q (i .itself e);
         other = λ n. lost-passed own l won q (i .other n);
       }
-  point-frame own l (Read r) q f i = runs-passed own l r (Read r) q (f (r .sheet) refl (i .0 .won .is)) i
-  point-frame own l (Commit r u) q f i = runs-passed own l r (Commit r u) q (f (r .sheet) refl (i .0 .won .is)) i
-  point-frame own l (Swap r e new) q f i = runs-passed own l r (Swap r e new) q (f (r .sheet) refl (i .0 .won .is)) i
-  point-frame own l (Mark r said) q f i = runs-passed own l r (Mark r said) q (f (r .sheet) refl (i .0 .won .is)) i
-  point-frame own l (Release r said) q f i =
+  point-frame own l (Point.Run r at) q f i =
       let g = f (r .sheet) refl (i .0 .0 .won .is) in
-      (runs-passed own l r (Release r said) q g (i .0), g .done (i .1))
+      (runs-passed own l r at q g (i .0), λ z. g .done (i .1 z))
 
 -- a worker whose own sheet passed the change, and so did the sheet that it helps, if that has won
 pub frame :
     (K : Rules) (v v′ : View) (k : Worker) (s : State) → ((p : Point) → s ≡ UnderWay p → Passed v v′ (k .own)) →
-    ((p : Point) (t : ℕ) → s ≡ UnderWay p → helpedOf p ≡ Sheet t → v .st t .kind ≢ unwon → Passed v v′ t) →
+    ((p : Point) (t : ℕ) → s ≡ UnderWay p → helpedOf p ≡ By t → v .st t .kind ≢ unwon → Passed v v′ t) →
     StateOk K v k s → StateOk K v′ k s
 frame K v v′ k Idle f g o = o
 frame K v v′ k (UnderWay p) f g o = (o .0, point-frame K v v′ (k .own) (k .lock) p (f p refl) (λ t. g p t refl) (o .1))

@@ -7,7 +7,7 @@ use mathlib.Core.Logic.{_≢_}
 use mathlib.Core.Bool.{Bool, true}
 use mathlib.Core.List.{List}
 use lib.ListN.{getD}
-use Rattle.parts.specs.declared.Holder.the-variants.{Free, Sheet}
+use Rattle.parts.specs.declared.Holder.the-variants.{Free, By}
 use Rattle.parts.specs.declared.Instr.{Instr}
 use Rattle.parts.specs.declared.LockWord.{LockWord}
 use Rattle.parts.specs.declared.Reading.{Reading}
@@ -32,7 +32,7 @@ abbrev pub freeAt : ℕ → LockWord
 freeAt t = record { turn = t; holder = Free }
 
 module _ (K : Rules) (E : Scene) (T : Tale) (st : ℕ → Status) (o : Ok K E T st) (s l t : ℕ)
-    (is : E .lock l ≡ record { turn = t; holder = Sheet s }) (said : Bool)
+    (is : E .lock l ≡ record { turn = t; holder = By s }) (said : Bool)
     (halts : actIn (st s .job) (st s .front) ≡ fin said) (done : E .done s ≡ true) where
   abbrev after : ℕ → Status
   after = put st s (overOf (st s))
@@ -40,7 +40,7 @@ module _ (K : Rules) (E : Scene) (T : Tale) (st : ℕ → Status) (o : Ok K E T 
   holds : HeldOk K T (st s) l t
   holds = lock-is K E T st o l _ is
 
-  names : E .lock l .holder ≡ Sheet s
+  names : E .lock l .holder ≡ By s
   names = ap (λ (x : LockWord). x .holder) is
 
   held-sheet : SheetOk K (viewOf E st) (E .lock) s current

@@ -11,22 +11,24 @@ use Rattle.parts.specs.Numbers.{longestRun, helpSteps}
 use Rattle.parts.specs.declared.Answer.{Answer}
 use Rattle.parts.specs.declared.Answer.the-variants.{NotTaken}
 use Rattle.parts.specs.declared.Holder.{Holder}
-use Rattle.parts.specs.declared.Holder.the-variants.{Free, Sheet}
+use Rattle.parts.specs.declared.Holder.the-variants.{Free, By}
 use Rattle.parts.specs.declared.Instr.{Instr}
 use Rattle.parts.specs.declared.LockWord.{LockWord}
 use Rattle.parts.specs.declared.Reading.{Reading}
 use Rattle.steps.specs.Try.{startOf, answerOf}
 use Rattle.steps.specs.declared.Point.{Point}
-use Rattle.steps.specs.declared.Point.the-variants.{Look, Grab, LookAgain, ReadMark, Read, Commit, Swap, Mark, Release}
+use Rattle.steps.specs.declared.Point.the-variants.{Look, Grab, LookAgain, ReadMark}
 use Rattle.steps.specs.declared.Run.{Run}
+use Rattle.steps.specs.declared.Stage.{Stage}
+use Rattle.steps.specs.declared.Stage.the-variants.{Read, Commit, Swap, Mark, Release}
 use Rattle.steps.specs.declared.State.{State}
 use Rattle.steps.specs.declared.State.the-variants.{UnderWay, Finished}
 use Rattle.steps.specs.declared.Worker.{Worker}
 use Rattle.alone.specs.Jobs.{Try, givesOf, partOf}
 use Rattle.alone.proofs.Jobs.{gives-length}
 use Rattle.helping.specs.Machine.{Rules, Scene, Tale, put, sharedOf, paceOf, movedOf, releaseOf, lookTo, pacedOf, stepAt, stepTale}
-use Rattle.helping.specs.Ideal.{Guarded}
-use Rattle.helping.specs.Ok.{current, Status, viewOf, RunsAt, todoAt, Ok, Next, onward, aloneSteps}
+use Rattle.helping.specs.Ideal.{Guarded, leftAt}
+use Rattle.helping.specs.Ok.{current, Status, viewOf, todoAt, Ok, Next, onward, aloneSteps}
 use Rattle.helping.proofs.Put.{put-same}
 use Rattle.helping.proofs.Touch.{OnRun, run-on, Going, paced}
 use Rattle.helping.proofs.Alone.{part-alone}
@@ -46,10 +48,10 @@ pub record Part (K : Rules) (E : Scene) (T : Tale) (l s : ℕ) : Type 0 where
       E .word q .value ≡ getD (partOf k (last .program) (givesOf earlier (K .values))) q 0
 
 pub held-part :
-    (K : Rules) (E : Scene) (T : Tale) (st : ℕ → Status) → Ok K E T st → (l s : ℕ) → E .lock l .holder ≡ Sheet s →
+    (K : Rules) (E : Scene) (T : Tale) (st : ℕ → Status) → Ok K E T st → (l s : ℕ) → E .lock l .holder ≡ By s →
     Part K E T l s
 held-part K E T st o l s e =
-    let h = lock-at K E T st o l (Sheet s) e in
+    let h = lock-at K E T st o l (By s) e in
     let on = sheet-at K E T st o s current (h .kind) .0 in
     let vs = givesOf (h .earlier) (K .values) in
     let part = part-alone K (st s .job) (on .fine) vs (gives-length (h .earlier) (K .values)) (h .from) (st s .front) in
@@ -81,16 +83,16 @@ finished-stays K i (suc n) E x e =
     subst (λ (z : State). aloneSteps K i n (onward K i E z) ≡ E) (sym e) (finished-stays K i n E x e)
 
 -- a worker under way has a step to make
-to-do : (most : ℕ) (p : Point) → 1 ≤ todoAt most p
+pub to-do : (most : ℕ) (p : Point) → 1 ≤ todoAt most p
 to-do most Look = omega arith
 to-do most (Grab seen) = omega arith
 to-do most (LookAgain won) = omega arith
 to-do most (ReadMark seen won) = omega arith
-to-do most (Read r) = omega arith
-to-do most (Commit r u) = omega arith
-to-do most (Swap r e new) = omega arith
-to-do most (Mark r said) = omega arith
-to-do most (Release r said) = omega arith
+to-do most (Point.Run r Read) = omega arith
+to-do most (Point.Run r (Commit u)) = omega arith
+to-do most (Point.Run r (Swap e new)) = omega arith
+to-do most (Point.Run r (Mark said)) = omega arith
+to-do most (Point.Run r (Release said)) = omega arith
 
 -- worker i is at a point of its try on lock l, which another sheet, s, has held since turn t
 module _ (K : Rules) (T : Tale) (i l s t : ℕ) where
@@ -98,7 +100,7 @@ module _ (K : Rules) (T : Tale) (i l s t : ℕ) where
     state : E .worker i .state ≡ UnderWay p
     lock : E .worker i .lock ≡ l
     own : s ≢ E .worker i .own
-    held : E .lock l ≡ record { turn = t; holder = Sheet s }
+    held : E .lock l ≡ record { turn = t; holder = By s }
 
   -- once it went on, and the lock words stayed
   moved :
@@ -123,17 +125,17 @@ module _ (K : Rules) (T : Tale) (i l s t : ℕ) where
   step-first n E p e c = subst (λ (z : State). Completed K (aloneSteps K i n (onward K i E z)) T i l t) (sym e) c
 
   -- the last step: release
-  released : releaseOf (record { turn = t; holder = Sheet s }) t s ≡ record { turn = t; holder = Free }
+  released : releaseOf (record { turn = t; holder = By s }) t s ≡ record { turn = t; holder = Free }
   unfolding releaseOf
   released = rw (eq-eqb s s refl, eq-eqb t t refl)
 
   let-go :
-      (n : ℕ) (E : Scene) (st : ℕ → Status) → Ok K E T st → (r : Run) (said : Bool) → Helps E (Release r said) →
+      (n : ℕ) (E : Scene) (st : ℕ → Status) → Ok K E T st → (r : Run) (said : Bool) → Helps E (Point.Run r (Release said)) →
       r .sheet ≡ s → r .won ≡ t → Completed K (aloneSteps K i (suc n) E) T i l t
   unfolding stepAt stepTale answerOf
   let-go n E st o r said h sheet won =
-      let D = stepAt K E i (E .worker i) (Release r said) in
-      let next = step-ok K E T st o i (Release r said) (h .state) in
+      let D = stepAt K E i (E .worker i) (Point.Run r (Release said)) in
+      let next = step-ok K E T st o i (Point.Run r (Release said)) (h .state) in
       let ends : D .worker i .state ≡ Finished NotTaken =
       ap (λ (k : Worker). k .state) (put-same (E .worker) i _) ∙ told in
       let free : D .lock l ≡ record { turn = t; holder = Free } =
@@ -142,7 +144,7 @@ module _ (K : Rules) (T : Tale) (i l s t : ℕ) where
       (sym (h .lock))
       (put-same (E .lock) l _ ∙ (λ j. releaseOf (h .held j) (won j) (sheet j)) ∙ released) in
       let ok = lock-at K D T (next .st) (next .ok) l Free (ap (λ (x : LockWord). x .holder) free) in
-      step-first n E (Release r said) (h .state)
+      step-first n E (Point.Run r (Release said)) (h .state)
       (subst (λ (F : Scene). Completed K F T i l t) (sym (finished-stays K i n D NotTaken ends))
       (record { answer = ends; lock = free; words = ok .values }))
     where
@@ -152,60 +154,48 @@ module _ (K : Rules) (T : Tale) (i l s t : ℕ) where
   -- what is left to do is done in n steps
   abbrev Helper : ℕ → Type 0
   Helper n =
-      (E : Scene) (st : ℕ → Status) → Ok K E T st → (p : Point) → Helps E p → OnRun s t p → todoAt (K .most) p ≤ n →
-      Completed K (aloneSteps K i n E) T i l t
+      (E : Scene) (st : ℕ → Status) → Ok K E T st → (r : Run) (at : Stage) → Helps E (Point.Run r at) → OnRun s t r at →
+      leftAt (K .most) r at ≤ n → Completed K (aloneSteps K i n E) T i l t
 
   -- a step of its run
   run-step :
-      (n : ℕ) → Helper n → (E : Scene) (st : ℕ → Status) → Ok K E T st → (p : Point) → Helps E p → OnRun s t p →
-      todoAt (K .most) p ≤ suc n → (r : Run) → Going p →
-      RunsAt (viewOf E st) (E .worker i .own) (E .worker i .lock) r p →
-      Next K (pacedOf E i (E .worker i) (r .sheet) p) T →
-      Completed K (aloneSteps K i n (pacedOf E i (E .worker i) (r .sheet) p)) T i l t
-  run-step n ih E st o p h on b r g q next =
-      let D = pacedOf E i (E .worker i) (r .sheet) p in
+      (n : ℕ) → Helper n → (E : Scene) (st : ℕ → Status) → Ok K E T st → (r : Run) (at : Stage) → Helps E (Point.Run r at) →
+      OnRun s t r at → leftAt (K .most) r at ≤ suc n → Going at → Next K (pacedOf E i (E .worker i) r at) T →
+      Completed K (aloneSteps K i n (pacedOf E i (E .worker i) r at)) T i l t
+  run-step n ih E st o r at h on b g next =
       let x = sharedOf E (r .sheet) in
-      let J = st (r .sheet) .job in
+      let q = mine K E T st o i (Point.Run r at) (h .state) .1 .0 in
       let page = on-sheet K E T st o (r .sheet) (q .0 .won .is) in
-      let falls : todoAt (K .most) (paceOf (E .program (r .sheet)) x p .point) < todoAt (K .most) p =
-      subst (λ (c : List Instr). todoAt (K .most) (paceOf c x p .point) < todoAt (K .most) p) (page .code)
-      (paced K J (page .fine) (st (r .sheet) .front) x p (q .1) g) in
-      ih D (next .st) (next .ok) _ (moved E D p _ refl refl h) (run-on (E .program (r .sheet)) x p s t on)
+      let falls =
+      subst (λ (c : List Instr). leftAt (K .most) (paceOf c x r at .run) (paceOf c x r at .stage) < leftAt (K .most) r at)
+      (page .code) (paced K (st (r .sheet) .job) (page .fine) (st (r .sheet) .front) x r at (q .1) g) in
+      let to = run-on (E .program (r .sheet)) x r at g in
+      ih _ (next .st) (next .ok) _ _ (moved E _ (Point.Run r at) _ refl refl h) (to .0 ∙ on .0, to .1 ∙ on .1, to .2)
       (omega (arith, falls))
 
   step-on : (n : ℕ) → Helper n → Helper (suc n)
   unfolding stepAt stepTale
-  step-on n ih E st o Look h on b = absurd on
-  step-on n ih E st o (Grab seen) h on b = absurd on
-  step-on n ih E st o (LookAgain won) h on b = absurd on
-  step-on n ih E st o (ReadMark seen won) h on b = absurd on
-  step-on n ih E st o (Release r said) h on b = absurd on
-  step-on n ih E st o (Read r) h on b =
-      step-first n E (Read r) (h .state)
-      (run-step n ih E st o (Read r) h on b r tt (mine K E T st o i (Read r) (h .state) .1)
-      (step-ok K E T st o i (Read r) (h .state)))
-  step-on n ih E st o (Commit r u) h on b =
-      step-first n E (Commit r u) (h .state)
-      (run-step n ih E st o (Commit r u) h on b r tt (mine K E T st o i (Commit r u) (h .state) .1)
-      (step-ok K E T st o i (Commit r u) (h .state)))
-  step-on n ih E st o (Swap r e new) h on b =
-      step-first n E (Swap r e new) (h .state)
-      (run-step n ih E st o (Swap r e new) h on b r tt (mine K E T st o i (Swap r e new) (h .state) .1)
-      (step-ok K E T st o i (Swap r e new) (h .state)))
-  step-on zero ih E st o (Mark r said) h on b = absurd (omega arith)
-  step-on (suc n) ih E st o (Mark r said) h on b =
-      let next = step-ok K E T st o i (Mark r said) (h .state) in
-      let D = stepAt K E i (E .worker i) (Mark r said) in
-      step-first (suc n) E (Mark r said) (h .state)
-      (let-go n D (next .st) (next .ok) r said (moved E D (Mark r said) (Release r said) refl refl h) (on .0) (on .1))
+  step-on n ih E st o r Read h on b =
+      step-first n E _ (h .state) (run-step n ih E st o r Read h on b tt (step-ok K E T st o i _ (h .state)))
+  step-on n ih E st o r (Commit u) h on b =
+      step-first n E _ (h .state) (run-step n ih E st o r (Commit u) h on b tt (step-ok K E T st o i _ (h .state)))
+  step-on n ih E st o r (Swap e new) h on b =
+      step-first n E _ (h .state) (run-step n ih E st o r (Swap e new) h on b tt (step-ok K E T st o i _ (h .state)))
+  step-on zero ih E st o r (Mark said) h on b = absurd (omega arith)
+  step-on (suc n) ih E st o r (Mark said) h on b =
+      let next = step-ok K E T st o i (Point.Run r (Mark said)) (h .state) in
+      let D = stepAt K E i (E .worker i) (Point.Run r (Mark said)) in
+      step-first (suc n) E (Point.Run r (Mark said)) (h .state)
+      (let-go n D (next .st) (next .ok) r said (moved E D (Point.Run r (Mark said)) (Point.Run r (Release said)) refl refl h) (on .0) (on .1))
+  step-on n ih E st o r (Release said) h on b = absurd (on .2 tt)
 
   helps-on : (n : ℕ) → Helper n
-  helps-on zero = λ E st o p h on b. absurd (omega (arith, to-do (K .most) p))
+  helps-on zero = λ E st o r at h on b. absurd (omega (arith, to-do (K .most) (Point.Run r at)))
   helps-on (suc n) = step-on n (helps-on n)
 
 pub completes :
     (K : Rules) (E : Scene) (T : Tale) (st : ℕ → Status) → Ok K E T st → (i s : ℕ) →
-    E .worker i .state ≡ UnderWay Look → E .lock (E .worker i .lock) .holder ≡ Sheet s →
+    E .worker i .state ≡ UnderWay Look → E .lock (E .worker i .lock) .holder ≡ By s →
     Completed K (aloneSteps K i (helpSteps (K .most)) E) T i (E .worker i .lock) (E .lock (E .worker i .lock) .turn)
 unfolding stepAt stepTale lookTo
 completes K E T st o i s e h =
@@ -221,7 +211,7 @@ completes K E T st o i s e h =
     count : suc (longestRun (K .most) + 2) ≡ helpSteps (K .most)
     count = omega arith
 
-    held : E .lock l ≡ record { turn = t; holder = Sheet s }
+    held : E .lock l ≡ record { turn = t; holder = By s }
     held = λ j. record { turn = t; holder = h j }
 
     other : s ≢ E .worker i .own
@@ -229,7 +219,7 @@ completes K E T st o i s e h =
 
     worker :
         stepAt K E i (E .worker i) Look .worker ≡
-        put (E .worker) i (movedOf (E .worker i) (UnderWay (Read (startOf s t))))
+        put (E .worker) i (movedOf (E .worker i) (UnderWay (Point.Run (startOf s t) Read)))
     worker =
         ap
         (λ (x : Holder).
@@ -240,7 +230,7 @@ completes K E T st o i s e h =
     looked =
         let next = step-ok K E T st o i Look e in
         let D = stepAt K E i (E .worker i) Look in
-        helps-on K T i l s t (longestRun (K .most) + 2) D (next .st) (next .ok) (Read (startOf s t))
-        (moved K T i l s t E D Look (Read (startOf s t)) worker refl
+        helps-on K T i l s t (longestRun (K .most) + 2) D (next .st) (next .ok) (startOf s t) Read
+        (moved K T i l s t E D Look (Point.Run (startOf s t) Read) worker refl
         (record { state = e; lock = refl; own = other; held = held }))
-        (refl, refl) (omega arith)
+        (refl, refl, λ z. z) (omega arith)

@@ -6,9 +6,9 @@ use native.Mathlib.Omega.{arith}
 use Rattle.parts.specs.declared.Follows.{Follows}
 use Rattle.parts.specs.declared.Follows.the-variants as follows
 use Rattle.parts.specs.declared.Registers.{Registers}
-use Rattle.steps.specs.declared.Point.{Point}
-use Rattle.steps.specs.declared.Point.the-variants.{Look, Grab, LookAgain, ReadMark, Read, Commit, Swap, Mark, Release}
 use Rattle.steps.specs.declared.Run.{Run}
+use Rattle.steps.specs.declared.Stage.{Stage}
+use Rattle.steps.specs.declared.Stage.the-variants.{Read, Commit, Swap, Mark, Release}
 use Rattle.helping.specs.Machine.{Rules, Shared, Act, fin, go, touch, actAt, target, ontoOf}
 use Rattle.helping.specs.Ideal.{farOf, Job, Ideal, nextOf, idealOf, actIn, Touches, metIn, Follow, Guarded, FineJob, At, In, Stands, Moved}
 use Rattle.helping.proofs.Run.{next-in, next-done, next-swap}
@@ -39,7 +39,7 @@ module _ (J : Job) (j : ℕ) (r : Run) (at : At J j r) where
   onto :
       (over : ℕ) (rs : Registers) (x : Shared) (s : Ideal) → idealOf J (suc j) ≡ s →
       suc (idealOf J j .next + over) ≡ s .next → rs ≡ s .registers → r .place ≡ s .place →
-      In J (suc j) x (Read (ontoOf r over rs))
+      In J (suc j) x (ontoOf r over rs) Read
   onto over rs x s e n q p = (
     record {
       next = omega (arith, at .next, ap (λ (t : Ideal). t .next) e);
@@ -50,46 +50,44 @@ module _ (J : Job) (j : ℕ) (r : Run) (at : At J j r) where
 
   pub go-on :
       (x : Shared) (n : ℕ) (rs : Registers) → actIn J j ≡ go rs n → r .place ≡ idealOf J j .place →
-      In J (suc j) x (Read (ontoOf r n rs))
+      In J (suc j) x (ontoOf r n rs) Read
   unfolding idealOf nextOf
   go-on x n rs e p =
       onto n rs x _ (ap (λ (a : Act). nextOf a (idealOf J j)) e) refl refl p
 
   pub done-on :
       (x : Shared) (rs : Registers) → Follow (actIn J j) (metIn J j .value) (follows.Done rs) →
-      r .place ≡ suc (idealOf J j .place) → In J (suc j) x (Read (ontoOf r 0 rs))
+      r .place ≡ suc (idealOf J j .place) → In J (suc j) x (ontoOf r 0 rs) Read
   unfolding idealOf
   done-on x rs e p = onto 0 rs x _ (next-done (actIn J j) (idealOf J j) rs e) (omega arith) refl p
 
   pub swap-on :
       (x : Shared) (new : ℕ) → Follow (actIn J j) (metIn J j .value) (follows.Swap new) →
-      r .place ≡ suc (idealOf J j .place) → In J (suc j) x (Read (ontoOf r 0 (r .registers)))
+      r .place ≡ suc (idealOf J j .place) → In J (suc j) x (ontoOf r 0 (r .registers)) Read
   unfolding idealOf
   swap-on x new e p =
       onto 0 (r .registers) x _ (next-swap (actIn J j) (idealOf J j) new e) (omega arith) (at .registers) p
 
 -- another run, seen across a step
 in-moved :
-    (J : Job) (n n′ : ℕ) (x x′ : Shared) → Moved J n x n′ x′ → (j : ℕ) (p : Point) → j ≤ n → In J j x p → In J j x′ p
-in-moved J n n′ x x′ m j Look h i = absurd i
-in-moved J n n′ x x′ m j (Grab seen) h i = absurd i
-in-moved J n n′ x x′ m j (LookAgain won) h i = absurd i
-in-moved J n n′ x x′ m j (ReadMark seen won) h i = absurd i
-in-moved J n n′ x x′ m j (Read r) h i = i
-in-moved J n n′ x x′ m j (Commit r u) h (a, p, t, w) =
+    (J : Job) (n n′ : ℕ) (x x′ : Shared) → Moved J n x n′ x′ → (j : ℕ) (r : Run) (at : Stage) → j ≤ n → In J j x r at →
+    In J j x′ r at
+in-moved J n n′ x x′ m j r Read h i = i
+in-moved J n n′ x x′ m j r (Commit u) h (a, p, t, w) =
     (a, p, t, λ e. w (m .kept j t e) ∙ sym (m .still j h t e))
-in-moved J n n′ x x′ m j (Swap r e new) h (a, p, t, w, q) =
+in-moved J n n′ x x′ m j r (Swap e new) h (a, p, t, w, q) =
     (a, p, t, w, m .holds j _ (touches (actIn J j) _ _ t) q)
-in-moved J n n′ x x′ m j (Mark r said) h i = i
-in-moved J n n′ x x′ m j (Release r said) h i = i
+in-moved J n n′ x x′ m j r (Mark said) h i = i
+in-moved J n n′ x x′ m j r (Release said) h i = i
 
 pub others :
-    (J : Job) (n n′ : ℕ) (x x′ : Shared) (p : Point) → Moved J n x n′ x′ → Stands J n x p → Stands J n′ x′ p
-others J n n′ x x′ p m t =
+    (J : Job) (n n′ : ℕ) (x x′ : Shared) (r : Run) (at : Stage) → Moved J n x n′ x′ → Stands J n x r at →
+    Stands J n′ x′ r at
+others J n n′ x x′ r at m t =
     record {
       j = t .j;
       behind = le-trans (t .behind) (m .up);
-      inn = in-moved J n n′ x x′ m (t .j) p (t .behind) (t .inn);
+      inn = in-moved J n n′ x x′ m (t .j) r at (t .behind) (t .inn);
     }
 
 -- nothing moved

@@ -11,11 +11,12 @@ use Rattle.parts.specs.Pick.{pick, onHolder}
 use Rattle.parts.specs.declared.Answer.{Answer}
 use Rattle.parts.specs.declared.Answer.the-variants.{NotTaken}
 use Rattle.parts.specs.declared.Holder.{Holder}
-use Rattle.parts.specs.declared.Holder.the-variants.{Free, Sheet}
+use Rattle.parts.specs.declared.Holder.the-variants.{Free, By}
 use Rattle.parts.specs.declared.LockWord.{LockWord}
 use Rattle.steps.specs.Try.{startOf}
 use Rattle.steps.specs.declared.Point.{Point}
-use Rattle.steps.specs.declared.Point.the-variants.{Look, Grab, LookAgain, ReadMark, Read}
+use Rattle.steps.specs.declared.Point.the-variants.{Look, Grab, LookAgain, ReadMark}
+use Rattle.steps.specs.declared.Stage.the-variants.{Read}
 use Rattle.steps.specs.declared.State.the-variants.{UnderWay, Finished}
 use Rattle.steps.specs.declared.Worker.{Worker}
 use Rattle.helping.specs.Machine.{Rules, Scene, Shared, Tale, movedOf, onTo, lookTo, markTo}
@@ -26,7 +27,7 @@ use Rattle.helping.proofs.Frame.{only-worker}
 use Rattle.helping.proofs.Change.{sheet-at, lock-at, won-held, held-by}
 
 -- a run stands at its start
-starts : (J : Job) (n : ℕ) (x : Shared) (s t : ℕ) → Stands J n x (Read (startOf s t))
+starts : (J : Job) (n : ℕ) (x : Shared) (s t : ℕ) → Stands J n x (startOf s t) Read
 unfolding idealOf
 starts J n x s t =
     record { j = 0; behind = omega arith; inn = (record { next = refl; registers = refl }, refl) }
@@ -72,9 +73,9 @@ module _ (K : Rules) (E : Scene) (T : Tale) (st : ℕ → Status) (o : Ok K E T 
   -- on to a run of a sheet that has won this lock
   runs :
       (s t : ℕ) → 3 + (K .most - 1) * 3 < todoAt (K .most) p → (s ≢ k .own → st (k .own) .kind ≡ unwon) →
-      Won (st s) (k .lock) t → Ok K (onTo E i k (UnderWay (Read (startOf s t)))) T st
+      Won (st s) (k .lock) t → Ok K (onTo E i k (UnderWay (Point.Run (startOf s t) Read))) T st
   runs s t h u w =
-      goes (Read (startOf s t)) (omega (arith, h)) (record { help = u; won = w }, starts _ _ _ s t)
+      goes (Point.Run (startOf s t) Read) (omega (arith, h)) ((record { help = u; won = w }, starts _ _ _ s t), λ z. absurd z)
 
 module _ (K : Rules) (E : Scene) (T : Tale) (st : ℕ → Status) (o : Ok K E T st) (i : ℕ) where
   abbrev own : ℕ
@@ -105,14 +106,14 @@ module _ (K : Rules) (E : Scene) (T : Tale) (st : ℕ → Status) (o : Ok K E T 
           Ok K
           (onTo E i (E .worker i)
           (onHolder h (pick (eqb (E .lock l .turn) (K .last)) (Finished NotTaken) (UnderWay (Grab (E .lock l .turn))))
-          (λ s. UnderWay (Read (startOf s (E .lock l .turn))))))
+          (λ s. UnderWay (Point.Run (startOf s (E .lock l .turn)) Read))))
           T st
       go Free h = free (eqb (E .lock l .turn) (K .last)) h refl
-      go (Sheet s) h =
+      go (By s) h =
           runs K E T st o i Look e s (E .lock l .turn) (omega arith) (λ n. q .0) (won-held K E T st o l s h)
 
   -- a sheet that the lock does not name does not hold it
-  not-holder : (won : ℕ) → E .lock l .holder ≢ Sheet own → (st own .kind ≡ unwon) ⊎ Won (st own) l won → Lost (st own) l won
+  not-holder : (won : ℕ) → E .lock l .holder ≢ By own → (st own .kind ≡ unwon) ⊎ Won (st own) l won → Lost (st own) l won
   not-holder won n (inl u) = inl u
   not-holder won n (inr w) = go (st own .kind) refl
     where
@@ -133,7 +134,7 @@ module _ (K : Rules) (E : Scene) (T : Tale) (st : ℕ → Status) (o : Ok K E T 
         other = λ n. not-holder won n q;
       })
     where
-      itself : E .lock l .holder ≡ Sheet own → (st own .kind ≡ unwon) ⊎ Won (st own) l won → Won (st own) l won
+      itself : E .lock l .holder ≡ By own → (st own .kind ≡ unwon) ⊎ Won (st own) l won → Won (st own) l won
       itself h (inl u) = absurd (won-held K E T st o l own h .is u)
       itself h (inr w) = w
 
@@ -162,32 +163,32 @@ module _ (K : Rules) (E : Scene) (T : Tale) (st : ℕ → Status) (o : Ok K E T 
 
       run :
           (s t : ℕ) → (s ≢ own → st own .kind ≡ unwon) → Won (st s) l t →
-          Ok K (onTo E i (E .worker i) (UnderWay (Read (startOf s t)))) T st
+          Ok K (onTo E i (E .worker i) (UnderWay (Point.Run (startOf s t) Read))) T st
       run s t = runs K E T st o i (ReadMark seen won) e s t (omega arith)
 
-      run-own : Won (st own) l won → Ok K (onTo E i (E .worker i) (UnderWay (Read (startOf own won)))) T st
+      run-own : Won (st own) l won → Ok K (onTo E i (E .worker i) (UnderWay (Point.Run (startOf own won) Read))) T st
       run-own = run own won (λ n. absurd (n refl))
 
-      other : (s : ℕ) → seen .holder ≡ Sheet s → s ≢ own → seen .holder ≢ Sheet own
+      other : (s : ℕ) → seen .holder ≡ By s → s ≢ own → seen .holder ≢ By own
       other s h n z =
-          let d : Sheet s ≡ Sheet own = sym h ∙ z in
+          let d : By s ≡ By own = sym h ∙ z in
           n cc
 
       own-won : (h : Holder) → E .done own ≡ true → seen .holder ≡ h → Won (st own) l won
       own-won Free d h = marked won d (q .other (free-holds (seen .holder) own h))
-      own-won (Sheet s) d h = by (ℕ-discrete s own)
+      own-won (By s) d h = by (ℕ-discrete s own)
         where
           by : Dec (s ≡ own) → Won (st own) l won
-          by (yes z) = q .itself (h ∙ ap Sheet z)
+          by (yes z) = q .itself (h ∙ ap By z)
           by (no n) = marked won d (q .other (other s h n))
 
       held :
-          (s : ℕ) (b : Bool) → E .done own ≡ false → seen .holder ≡ Sheet s → eqb s own ≡ b →
+          (s : ℕ) (b : Bool) → E .done own ≡ false → seen .holder ≡ By s → eqb s own ≡ b →
           Ok K
           (onTo E i (E .worker i)
-          (pick b (UnderWay (Read (startOf own won))) (UnderWay (Read (startOf s (seen .turn))))))
+          (pick b (UnderWay (Point.Run (startOf own won) Read)) (UnderWay (Point.Run (startOf s (seen .turn)) Read))))
           T st
-      held s true d h z = run-own (q .itself (h ∙ ap Sheet (eqb-true s own z)))
+      held s true d h z = run-own (q .itself (h ∙ ap By (eqb-true s own z)))
       held s false d h z =
           run s (seen .turn) (λ n. unmarked won d (q .other (other s h (eqb-false s own z)))) (q .holder s h)
 
@@ -195,13 +196,13 @@ module _ (K : Rules) (E : Scene) (T : Tale) (st : ℕ → Status) (o : Ok K E T 
           (b : Bool) (h : Holder) → E .done own ≡ b → seen .holder ≡ h →
           Ok K
           (onTo E i (E .worker i)
-          (pick b (UnderWay (Read (startOf own won)))
+          (pick b (UnderWay (Point.Run (startOf own won) Read))
           (onHolder h (Finished NotTaken)
-          (λ s. pick (eqb s own) (UnderWay (Read (startOf own won))) (UnderWay (Read (startOf s (seen .turn))))))))
+          (λ s. pick (eqb s own) (UnderWay (Point.Run (startOf own won) Read)) (UnderWay (Point.Run (startOf s (seen .turn)) Read))))))
           T st
       go true h d z = run-own (own-won h d z)
       go false Free d z =
           ends K E T st o i (ReadMark seen won) e NotTaken (omega arith)
           (mine-named K E T st o i (ReadMark seen won) e .absent
           (unmarked won d (q .other (free-holds (seen .holder) own z))))
-      go false (Sheet s) d z = held s (eqb s own) d z refl
+      go false (By s) d z = held s (eqb s own) d z refl

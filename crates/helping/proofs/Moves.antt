@@ -8,17 +8,19 @@ use lib.Dec.{eqb}
 use borrow.Author.Tests.{eqb-true}
 use Rattle.parts.specs.Pick.{pick}
 use Rattle.parts.specs.declared.Holder.{Holder}
-use Rattle.parts.specs.declared.Holder.the-variants.{Free, Sheet}
+use Rattle.parts.specs.declared.Holder.the-variants.{Free, By}
 use Rattle.parts.specs.declared.LockWord.{LockWord}
 use Rattle.steps.specs.declared.Point.{Point}
-use Rattle.steps.specs.declared.Point.the-variants.{Look, Grab, LookAgain, ReadMark, Read, Commit, Swap, Mark, Release}
+use Rattle.steps.specs.declared.Point.the-variants.{Look, Grab, LookAgain, ReadMark}
 use Rattle.steps.specs.declared.Run.{Run}
+use Rattle.steps.specs.declared.Stage.{Stage}
+use Rattle.steps.specs.declared.Stage.the-variants.{Read, Commit, Swap, Mark, Release}
 use Rattle.steps.specs.declared.State.the-variants.{UnderWay}
 use Rattle.steps.specs.declared.Worker.{Worker}
 use Rattle.helping.specs.Machine.{Rules, Scene, Tale, setLock, movedOf, onTo, grabOf, pacedOf, stepAt, winTale, grabTale, stepTale}
-use Rattle.helping.specs.Ok.{Status, viewOf, RunsAt, PointOk, Ok, Next}
+use Rattle.helping.specs.Ok.{Status, viewOf, PointOk, Ok, Next}
 use Rattle.helping.proofs.Put.{put-same}
-use Rattle.helping.proofs.Touch.{OnRun, Going}
+use Rattle.helping.proofs.Touch.{Going}
 use Rattle.helping.proofs.Frees.{freeAt}
 use Rattle.helping.proofs.Takes.{takes}
 use Rattle.helping.proofs.Looks.{mine, goes, look-ok, again-ok, read-mark-ok}
@@ -30,7 +32,7 @@ use Rattle.helping.proofs.Releases.{release-ok}
 abbrev pub GrabWay : Tale → ℕ → ℕ → ℕ → ℕ → LockWord → LockWord → Tale → Type 0
 GrabWay T i l seen own x y U =
     ((y ≡ x) × (U ≡ T)) ⊎
-    ((x ≡ freeAt seen) × (y ≡ record { turn = suc seen; holder = Sheet own }) × (U ≡ winTale T i l))
+    ((x ≡ freeAt seen) × (y ≡ record { turn = suc seen; holder = By own }) × (U ≡ winTale T i l))
 
 pub grab-way :
     (T : Tale) (i l seen own : ℕ) (x : LockWord) → GrabWay T i l seen own x (grabOf x seen own) (grabTale T i l x seen)
@@ -45,11 +47,11 @@ grab-way T i l seen own x = way (x .turn) (x .holder)
       where
         go :
             (b : Bool) → eqb t seen ≡ b →
-            GrabWay T i l seen own (freeAt t) (pick b (record { turn = suc seen; holder = Sheet own }) (freeAt t))
+            GrabWay T i l seen own (freeAt t) (pick b (record { turn = suc seen; holder = By own }) (freeAt t))
             (pick b (winTale T i l) T)
         go true z = inr (λ i. freeAt (eqb-true t seen z i), refl, refl)
         go false z = inl (refl, refl)
-    way t (Sheet s) = inl (refl, refl)
+    way t (By s) = inl (refl, refl)
 
 module _ (K : Rules) (E : Scene) (T : Tale) (st : ℕ → Status) (o : Ok K E T st) (i : ℕ) where
   abbrev k : Worker
@@ -94,9 +96,8 @@ module _ (K : Rules) (E : Scene) (T : Tale) (st : ℕ → Status) (o : Ok K E T 
 
   -- a step of a run at an instruction
   run-ok :
-      (p : Point) (r : Run) → k .state ≡ UnderWay p → OnRun (r .sheet) (r .won) p → Going p →
-      RunsAt (viewOf E st) (k .own) (k .lock) r p → Next K (pacedOf E i k (r .sheet) p) T
-  run-ok p r e on g q = pace-ok K E T st o i p e (r .sheet) (r .won) on g (q .0 .help) (q .0 .won) (q .1)
+      (r : Run) (at : Stage) → k .state ≡ UnderWay (Point.Run r at) → Going at → Next K (pacedOf E i k r at) T
+  run-ok r at e g = pace-ok K E T st o i r at e g (mine K E T st o i (Point.Run r at) e .1 .0)
 
 pub step-ok :
     (K : Rules) (E : Scene) (T : Tale) (st : ℕ → Status) → Ok K E T st → (i : ℕ) (p : Point) →
@@ -106,10 +107,8 @@ step-ok K E T st o i Look e = record { st = st; ok = look-ok K E T st o i e }
 step-ok K E T st o i (Grab seen) e = grab-ok K E T st o i seen e
 step-ok K E T st o i (LookAgain won) e = record { st = st; ok = again-ok K E T st o i won e }
 step-ok K E T st o i (ReadMark seen won) e = record { st = st; ok = read-mark-ok K E T st o i seen won e }
-step-ok K E T st o i (Read r) e = run-ok K E T st o i (Read r) r e (refl, refl) tt (mine K E T st o i (Read r) e .1)
-step-ok K E T st o i (Commit r u) e =
-    run-ok K E T st o i (Commit r u) r e (refl, refl) tt (mine K E T st o i (Commit r u) e .1)
-step-ok K E T st o i (Swap r u new) e =
-    run-ok K E T st o i (Swap r u new) r e (refl, refl) tt (mine K E T st o i (Swap r u new) e .1)
-step-ok K E T st o i (Mark r said) e = record { st = st; ok = mark-ok K E T st o i r said e }
-step-ok K E T st o i (Release r said) e = release-ok K E T st o i r said e
+step-ok K E T st o i (Point.Run r Read) e = run-ok K E T st o i r Read e tt
+step-ok K E T st o i (Point.Run r (Commit u)) e = run-ok K E T st o i r (Commit u) e tt
+step-ok K E T st o i (Point.Run r (Swap u new)) e = run-ok K E T st o i r (Swap u new) e tt
+step-ok K E T st o i (Point.Run r (Mark said)) e = record { st = st; ok = mark-ok K E T st o i r said e }
+step-ok K E T st o i (Point.Run r (Release said)) e = release-ok K E T st o i r said e

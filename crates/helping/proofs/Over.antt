@@ -11,7 +11,8 @@ use Rattle.parts.specs.declared.Answer.the-variants.{NotTaken}
 use Rattle.parts.specs.declared.Instr.{Instr}
 use Rattle.steps.specs.Worker.{worker0, lookingOf}
 use Rattle.steps.specs.declared.Point.{Point}
-use Rattle.steps.specs.declared.Point.the-variants.{Look, Grab, LookAgain, ReadMark, Read, Commit, Swap, Mark, Release}
+use Rattle.steps.specs.declared.Point.the-variants.{Look, Grab, LookAgain, ReadMark}
+use Rattle.steps.specs.declared.Stage.the-variants.{Read, Commit, Swap, Mark, Release}
 use Rattle.steps.specs.declared.State.{State}
 use Rattle.steps.specs.declared.State.the-variants.{UnderWay, Finished}
 use Rattle.steps.specs.declared.Worker.{Worker}
@@ -59,11 +60,11 @@ step-aside K E i m k Look n = put-other (E .worker) i _ m n
 step-aside K E i m k (Grab seen) n = put-other (E .worker) i _ m n
 step-aside K E i m k (LookAgain won) n = put-other (E .worker) i _ m n
 step-aside K E i m k (ReadMark seen won) n = put-other (E .worker) i _ m n
-step-aside K E i m k (Read r) n = put-other (E .worker) i _ m n
-step-aside K E i m k (Commit r u) n = put-other (E .worker) i _ m n
-step-aside K E i m k (Swap r e new) n = put-other (E .worker) i _ m n
-step-aside K E i m k (Mark r said) n = put-other (E .worker) i _ m n
-step-aside K E i m k (Release r said) n = put-other (E .worker) i _ m n
+step-aside K E i m k (Point.Run r Read) n = put-other (E .worker) i _ m n
+step-aside K E i m k (Point.Run r (Commit u)) n = put-other (E .worker) i _ m n
+step-aside K E i m k (Point.Run r (Swap e new)) n = put-other (E .worker) i _ m n
+step-aside K E i m k (Point.Run r (Mark said)) n = put-other (E .worker) i _ m n
+step-aside K E i m k (Point.Run r (Release said)) n = put-other (E .worker) i _ m n
 
 -- a step tells nothing new, or that worker i has won its lock
 step-tale :
@@ -76,11 +77,7 @@ step-tale P T E i k (Grab seen) a b =
     (grab-way T i (k .lock) seen (k .own) (E .lock (k .lock)))
 step-tale P T E i k (LookAgain won) a b = a
 step-tale P T E i k (ReadMark seen won) a b = a
-step-tale P T E i k (Read r) a b = a
-step-tale P T E i k (Commit r u) a b = a
-step-tale P T E i k (Swap r e new) a b = a
-step-tale P T E i k (Mark r said) a b = a
-step-tale P T E i k (Release r said) a b = a
+step-tale P T E i k (Point.Run r at) a b = a
 
 pub over-step :
     (K : Rules) (E : Scene) (T : Tale) (n i : ℕ) (p : Point) → E .worker i .state ≡ UnderWay p → Over E T n →

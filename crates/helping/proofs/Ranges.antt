@@ -8,16 +8,18 @@ use mathlib.Core.List.{List}
 use lib.ListN.{length}
 use Rattle.parts.specs.Numbers.{trySteps}
 use Rattle.parts.specs.declared.Holder.{Holder}
-use Rattle.parts.specs.declared.Holder.the-variants.{Free, Sheet}
+use Rattle.parts.specs.declared.Holder.the-variants.{Free, By}
 use Rattle.parts.specs.declared.Instr.{Instr}
 use Rattle.steps.specs.declared.Point.{Point}
-use Rattle.steps.specs.declared.Point.the-variants.{Look, Grab, LookAgain, ReadMark, Read, Commit, Swap, Mark, Release}
+use Rattle.steps.specs.declared.Point.the-variants.{Look, Grab, LookAgain, ReadMark}
 use Rattle.steps.specs.declared.Run.{Run}
+use Rattle.steps.specs.declared.Stage.{Stage}
+use Rattle.steps.specs.declared.Stage.the-variants.{Read, Commit, Swap, Mark, Release}
 use Rattle.steps.specs.declared.State.{State}
 use Rattle.steps.specs.declared.State.the-variants.{Idle, UnderWay, Finished}
 use Rattle.helping.specs.Machine.{Rules, Scene, Tale, actAt}
 use Rattle.helping.specs.Ideal.{idealOf, actIn, Touches, farOf, Fine, At}
-use Rattle.helping.specs.Ok.{unwon, Status, viewOf, PointOk, StateOk, LockOk, Ok, RunIn, PointIn, Ranged}
+use Rattle.helping.specs.Ok.{unwon, Status, viewOf, RunsAt, PointOk, StateOk, LockOk, Ok, RunIn, StageIn, PointIn, Ranged}
 use Rattle.helping.proofs.Run.{next-in, lag}
 use Rattle.helping.proofs.Inside.{touches, touch-far, asks-same}
 use Rattle.helping.proofs.Change.{on-sheet, held-counts}
@@ -60,25 +62,29 @@ ranged-point K E T st o own l p q = go p q
         subst (λ (c : List Instr). Touches (actAt c (r .next) (r .registers))) (on-sheet K E T st o (r .sheet) won .code)
         (subst Touches (sym (asks-same (st (r .sheet) .job) j r a)) t)
 
-    go : (p : Point) → PointOk K (viewOf E st) own l p → PointIn K E p
-    go Look q = tt
-    go (Grab seen) q = q .2
-    go (LookAgain won) q = tt
-    go (ReadMark seen won) q = tt
-    go (Read r) q = run r (q .1 .j) (q .0 .won .is) (q .1 .inn .0) (omega (arith, q .1 .inn .1))
-    go (Commit r u) q = (
+    stage :
+        (r : Run) (at : Stage) → RunsAt (viewOf E st) own l r at →
+        RunIn K E r × StageIn (actAt (E .program (r .sheet)) (r .next) (r .registers)) at
+    stage r Read q = (run r (q .1 .j) (q .0 .won .is) (q .1 .inn .0) (omega (arith, q .1 .inn .1)), tt)
+    stage r (Commit u) q = (
       run r (q .1 .j) (q .0 .won .is) (q .1 .inn .0) (omega (arith, q .1 .inn .1)),
       asks r (q .1 .j) (q .0 .won .is) (q .1 .inn .0) (q .1 .inn .2),
     )
-    go (Swap r e new) q =
+    stage r (Swap e new) q =
         let a = actIn (st (r .sheet) .job) (q .1 .j) in
         let t = touches a _ _ (q .1 .inn .2) in (
           run r (q .1 .j) (q .0 .won .is) (q .1 .inn .0) (omega (arith, q .1 .inn .1, touch-far a t)),
           asks r (q .1 .j) (q .0 .won .is) (q .1 .inn .0) t,
         )
-    go (Mark r said) q = run r (q .1 .j) (q .0 .won .is) (q .1 .inn .0) (omega (arith, q .1 .inn .1))
-    go (Release r said) q =
-        run r (q .0 .1 .j) (q .0 .0 .won .is) (q .0 .1 .inn .0) (omega (arith, q .0 .1 .inn .1))
+    stage r (Mark said) q = (run r (q .1 .j) (q .0 .won .is) (q .1 .inn .0) (omega (arith, q .1 .inn .1)), tt)
+    stage r (Release said) q = (run r (q .1 .j) (q .0 .won .is) (q .1 .inn .0) (omega (arith, q .1 .inn .1)), tt)
+
+    go : (p : Point) → PointOk K (viewOf E st) own l p → PointIn K E p
+    go Look q = tt
+    go (Grab seen) q = q .2
+    go (LookAgain won) q = tt
+    go (ReadMark seen won) q = tt
+    go (Point.Run r at) q = stage r at (q .0)
 
 ranged-steps :
     (K : Rules) (E : Scene) (T : Tale) (st : ℕ → Status) → Ok K E T st → (i : ℕ) →
@@ -100,7 +106,7 @@ ranged-count K E T st o q below = go (E .lock (K .guard q) .holder) refl (o .loc
         E .word q .count ≤ (K .most - 1) * K .last
     go Free e f =
         omega (arith, f .counts q (below, refl), mul-le-mul-left (K .most - 1) (f .early))
-    go (Sheet s) e h =
+    go (By s) e h =
         omega (arith, held-counts K E T st o (K .guard q) s e q (below, refl), mul-le-mul-left (K .most - 1) (h .early))
 
 pub ranged : (K : Rules) (E : Scene) (T : Tale) (st : ℕ → Status) → Ok K E T st → Ranged K E

@@ -10,12 +10,13 @@ use borrow.Author.Tests.{eqb-true, eqb-false}
 use Rattle.parts.specs.Pick.{pick}
 use Rattle.parts.specs.declared.Answer.the-variants.{RanYes, RanNo, NotTaken}
 use Rattle.parts.specs.declared.Holder.{Holder}
-use Rattle.parts.specs.declared.Holder.the-variants.{Free, Sheet}
+use Rattle.parts.specs.declared.Holder.the-variants.{Free, By}
 use Rattle.parts.specs.declared.Instr.{Instr}
 use Rattle.parts.specs.declared.LockWord.{LockWord}
 use Rattle.steps.specs.Try.{answerOf}
-use Rattle.steps.specs.declared.Point.the-variants.{Release}
 use Rattle.steps.specs.declared.Run.{Run}
+use Rattle.steps.specs.declared.Point.{Point}
+use Rattle.steps.specs.declared.Stage.the-variants.{Release}
 use Rattle.steps.specs.declared.State.the-variants.{UnderWay, Finished}
 use Rattle.alone.specs.Alone.{aloneOf}
 use Rattle.alone.specs.Jobs.{givesOf}
@@ -35,7 +36,7 @@ at t h = record { turn = t; holder = h }
 
 -- a release leaves the lock word x, or frees it where it names this sheet at this turn; y is what it becomes
 abbrev ReleaseWay : LockWord → LockWord → ℕ → ℕ → Type 0
-ReleaseWay x y won s = (y ≡ x) ⊎ ((x ≡ at won (Sheet s)) × (y ≡ freeAt won))
+ReleaseWay x y won s = (y ≡ x) ⊎ ((x ≡ at won (By s)) × (y ≡ freeAt won))
 
 release-way : (x : LockWord) (won s : ℕ) → ReleaseWay x (releaseOf x won s) won s
 unfolding releaseOf
@@ -43,30 +44,30 @@ release-way x won s = way (x .turn) (x .holder)
   where
     way : (t : ℕ) (h : Holder) → ReleaseWay (at t h) (releaseOf (at t h) won s) won s
     way t Free = inl refl
-    way t (Sheet a) = go (eqb a s) (eqb t won) refl refl
+    way t (By a) = go (eqb a s) (eqb t won) refl refl
       where
         go :
             (b c : Bool) → eqb a s ≡ b → eqb t won ≡ c →
-            ReleaseWay (at t (Sheet a)) (pick b (pick c (freeAt t) (at t (Sheet a))) (at t (Sheet a))) won s
+            ReleaseWay (at t (By a)) (pick b (pick c (freeAt t) (at t (By a))) (at t (By a))) won s
         go true true y z =
             inr
-            (λ i. at (eqb-true t won z i) (Sheet (eqb-true a s y i)), λ i. freeAt (eqb-true t won z i))
+            (λ i. at (eqb-true t won z i) (By (eqb-true a s y i)), λ i. freeAt (eqb-true t won z i))
         go true false y z = inl refl
         go false c y z = inl refl
 
 module _ (K : Rules) (E : Scene) (T : Tale) (st : ℕ → Status) (o : Ok K E T st) (i : ℕ) (r : Run) (said : Bool)
-    (e : E .worker i .state ≡ UnderWay (Release r said)) where
+    (e : E .worker i .state ≡ UnderWay (Point.Run r (Release said))) where
   abbrev own : ℕ
   own = E .worker i .own
 
   abbrev l : ℕ
   l = E .worker i .lock
 
-  here : PointOk K (viewOf E st) own l (Release r said)
-  here = mine K E T st o i (Release r said) e .1
+  here : PointOk K (viewOf E st) own l (Point.Run r (Release said))
+  here = mine K E T st o i (Point.Run r (Release said)) e .1
 
   named : TryOk K T (viewOf E st) (T .tries i) (E .worker i)
-  named = mine-named K E T st o i (Release r said) e
+  named = mine-named K E T st o i (Point.Run r (Release said)) e
 
   -- its own job, alone, after those before it, says this
   says : r .sheet ≡ own → Listed (Says K (T .tries i) said) (T .tries i) (T .won (T .tries i .lock))
@@ -114,7 +115,7 @@ module _ (K : Rules) (E : Scene) (T : Tale) (st : ℕ → Status) (o : Ok K E T 
           (subst (λ (F : Scene). Next K (told F) T) (sym (lock-self E l))
           (record {
             st = st;
-            ok = ends K E T st o i (Release r said) e (answerOf r own said) (omega arith) telling;
+            ok = ends K E T st o i (Point.Run r (Release said)) e (answerOf r own said) (omega arith) telling;
           }))
       go y (inr z) =
           let J : Job = st (r .sheet) .job in
@@ -128,6 +129,6 @@ module _ (K : Rules) (E : Scene) (T : Tale) (st : ℕ → Status) (o : Ok K E T 
             st = put st (r .sheet) (overOf (st (r .sheet)));
             ok =
                 ends K (setLock E l (freeAt (r .won))) T (put st (r .sheet) (overOf (st (r .sheet))))
-                (frees K E T st o (r .sheet) l (r .won) (z .0) said halts (here .1)) i (Release r said) e
+                (frees K E T st o (r .sheet) l (r .won) (z .0) said halts (here .1 tt)) i (Point.Run r (Release said)) e
                 (answerOf r own said) (omega arith) telling;
           })

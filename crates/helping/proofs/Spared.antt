@@ -4,10 +4,10 @@ use native.Mathlib.Nat.{le-refl, le-trans}
 use native.Mathlib.Omega.{arith}
 use mathlib.Core.Path.{_≡_, refl, sym, ap, _∙_, subst}
 use mathlib.Core.Logic.{_⊎_, _≢_}
-use Rattle.parts.specs.declared.Holder.the-variants.{Sheet}
+use Rattle.parts.specs.declared.Fill.{Fill}
+use Rattle.parts.specs.declared.Fill.the-variants.{Empty, Filled}
+use Rattle.parts.specs.declared.Holder.the-variants.{By}
 use Rattle.parts.specs.declared.LockWord.{LockWord}
-use Rattle.parts.specs.declared.Slot.{Slot}
-use Rattle.parts.specs.declared.Slot.the-variants.{Empty, Filled}
 use Rattle.helping.specs.Machine.{Rules, target}
 use Rattle.helping.specs.Ideal.{Job, idealOf, actIn, Touches, metIn, entryIn, Guarded, FineJob, Inv, Old, Moved}
 use Rattle.helping.specs.Ok.{Kind, unwon, current, past, Status, View, sharedAt, OnSheet, SheetOk}
@@ -37,14 +37,14 @@ module _ (K : Rules) (v v′ : View) (lock lock′ : ℕ → LockWord) (s : ℕ)
 
   -- its entries are what they were
   entry-spared : (J : Job) (j : ℕ) → entryIn J (sharedAt v′ s) j ≡ entryIn J (sharedAt v s) j
-  entry-spared J j = ap (λ (f : ℕ → Slot). f (idealOf J j .place)) (c .log)
+  entry-spared J j = ap (λ (f : ℕ → Fill). f (idealOf J j .place)) (c .log)
 
   spared-at : (κ : Kind) → v .st s .kind ≡ κ → SheetOk K v lock s κ → SheetOk K v′ lock′ s κ
-  spared-at unwon e q = (c .done ∙ q .0, λ p. ap (λ (f : ℕ → Slot). f p) (c .log) ∙ q .1 p)
+  spared-at unwon e q = (c .done ∙ q .0, λ p. ap (λ (f : ℕ → Fill). f p) (c .log) ∙ q .1 p)
   spared-at current e q =
       let J : Job = v .st s .job in (
         on-spared (q .0),
-        subst (λ (σ : Status). lock′ (σ .job .lock) ≡ record { turn = σ .turn; holder = Sheet s }) (sym (c .st))
+        subst (λ (σ : Status). lock′ (σ .job .lock) ≡ record { turn = σ .turn; holder = By s }) (sym (c .st))
             (c .holds e ∙ q .1),
         subst (λ (σ : Status). Inv K (σ .job) (σ .front) (sharedAt v′ s)) (sym (c .st))
             (record {
@@ -52,7 +52,7 @@ module _ (K : Rules) (v v′ : View) (lock lock′ : ℕ → LockWord) (s : ℕ)
               past = λ j h m. entry-spared J j ∙ q .2 .past j h m;
               here =
                   λ m.
-                  subst (λ (x : Slot). (x ≡ Empty) ⊎ (x ≡ Filled (metIn J (v .st s .front))))
+                  subst (λ (x : Fill). (x ≡ Empty) ⊎ (x ≡ Filled (metIn J (v .st s .front))))
                   (sym (entry-spared J (v .st s .front)))
                   (q .2 .here m);
               later = λ j h m. entry-spared J j ∙ q .2 .later j h m;

@@ -4,14 +4,14 @@ use mathlib.Core.Path.{_≡_, refl, sym, ap, _∙_, subst}
 use mathlib.Core.Logic.{⊎-elim}
 use native.Mathlib.Nat.{eq-or-lt-of-le, le-trans}
 use native.Mathlib.Omega.{arith}
+use Rattle.parts.specs.declared.Fill.{Fill}
+use Rattle.parts.specs.declared.Fill.the-variants.{Filled}
 use Rattle.parts.specs.declared.Follows.{Follows}
 use Rattle.parts.specs.declared.Follows.the-variants as follows
 use Rattle.parts.specs.declared.Reading.{Reading}
-use Rattle.parts.specs.declared.Slot.{Slot}
-use Rattle.parts.specs.declared.Slot.the-variants.{Filled}
-use Rattle.steps.specs.declared.Point.{Point}
-use Rattle.steps.specs.declared.Point.the-variants.{Look, Grab, LookAgain, ReadMark, Read, Commit, Swap, Mark, Release}
 use Rattle.steps.specs.declared.Run.{Run}
+use Rattle.steps.specs.declared.Stage.{Stage}
+use Rattle.steps.specs.declared.Stage.the-variants.{Read, Commit, Swap, Mark, Release}
 use Rattle.helping.specs.Machine.{Rules, Shared, Pace, Act, fin, go, touch, target, put, ontoOf, loggedOf, heldOf, swapOf, readOf, followOf, commitOf, paceOf}
 use Rattle.helping.specs.Ideal.{Job, idealOf, actIn, Touches, metIn, Follow, entryIn, farOf, FineJob, Old, At, In, Stands}
 use Rattle.helping.proofs.Put.{put-idle}
@@ -21,7 +21,7 @@ use Rattle.helping.proofs.Commit.{swap-late}
 
 pub record Still (J : Job) (n : ℕ) (x : Shared) (b : Pace) : Type 0 where
   pub same : b .shared ≡ x
-  pub stands : Stands J n x (b .point)
+  pub stands : Stands J n x (b .run) (b .stage)
 
 module _ (K : Rules) (J : Job) (n : ℕ) (x : Shared) (o : Old K J n x) (j : ℕ) (h : j ≤ n) where
   -- an instruction that is not the halt comes before it
@@ -60,7 +60,7 @@ module _ (K : Rules) (J : Job) (n : ℕ) (x : Shared) (o : Old K J n x) (j : ℕ
 
   follow-still :
       (r : Run) → At J j r → r .place ≡ suc (idealOf J j .place) → Touches (actIn J j) → (s : Follows) →
-      Follow (actIn J j) (metIn J j .value) s → Stands J n x (followOf s r (metIn J j))
+      Follow (actIn J j) (metIn J j .value) s → Stands J n x (followOf s x r (metIn J j) .run) (followOf s x r (metIn J j) .stage)
   follow-still r at p t (follows.Done rs) g =
       record { j = suc j; behind = before Touches t (λ e. e); inn = done-on J j r at x rs g p }
   follow-still r at p t (follows.Swap new) g =
@@ -74,15 +74,13 @@ module _ (K : Rules) (J : Job) (n : ℕ) (x : Shared) (o : Old K J n x) (j : ℕ
   commit-still r u at p t (touch w g) e =
       let q : x .log (r .place) ≡ Filled (metIn J j) = ap (x .log) p ∙ entered t in
       subst
-      (λ (slot : Slot).
+      (λ (fill : Fill).
       Still J n x
-      (record {
-        shared = record { word = x .word; log = put (x .log) (r .place) (Filled (heldOf slot u)) };
-        point = followOf (g (heldOf slot u .value)) (loggedOf r) (heldOf slot u);
-      }))
+      (followOf (g (heldOf fill u .value)) (record { word = x .word; log = put (x .log) (r .place) (Filled (heldOf fill u)) }) (loggedOf r)
+      (heldOf fill u)))
       (sym q)
       (record {
-        same = ap (λ (l : ℕ → Slot). record { word = x .word; log = l }) (put-idle (x .log) (r .place) _ (sym q));
+        same = ap (λ (l : ℕ → Fill). record { word = x .word; log = l }) (put-idle (x .log) (r .place) _ (sym q));
         stands =
             follow-still (loggedOf r) (record { next = at .next; registers = at .registers }) (ap suc p) t _
             (subst (λ (a : Act). Follow a (metIn J j .value) (g (metIn J j .value))) (sym e) refl);
@@ -95,7 +93,8 @@ module _ (K : Rules) (J : Job) (n : ℕ) (x : Shared) (o : Old K J n x) (j : ℕ
       Still J n x
       (record {
         shared = record { word = put (x .word) w (swapOf (x .word w) (metIn J j) new); log = x .log };
-        point = Read (ontoOf r 0 (r .registers));
+        run = ontoOf r 0 (r .registers);
+        stage = Read;
       })
   swap-still f r new at p g =
       let w = target (actIn J j) in
@@ -109,22 +108,18 @@ module _ (K : Rules) (J : Job) (n : ℕ) (x : Shared) (o : Old K J n x) (j : ℕ
         stands = record { j = suc j; behind = b; inn = swap-on J j r at x new g p };
       }
 
-  point-still : FineJob K J → (p : Point) → In J j x p → Still J n x (paceOf (J .code) x p)
+  stage-still : FineJob K J → (r : Run) (s : Stage) → In J j x r s → Still J n x (paceOf (J .code) x r s)
   unfolding paceOf
-  point-still f Look i = absurd i
-  point-still f (Grab seen) i = absurd i
-  point-still f (LookAgain won) i = absurd i
-  point-still f (ReadMark seen won) i = absurd i
-  point-still f (Read r) (at, p) =
+  stage-still f r Read (at, p) =
       subst (λ (a : Act). Still J n x (readOf a x r)) (sym (asks-same J j r at)) (read-still r at p (actIn J j) refl)
-  point-still f (Commit r u) (at, p, t, w) =
+  stage-still f r (Commit u) (at, p, t, w) =
       subst (λ (a : Act). Still J n x (commitOf a x r u)) (sym (asks-same J j r at))
       (commit-still r u at p t (actIn J j) refl)
-  point-still f (Swap r e new) (at, p, g, d, q) = rw (asks-same J j r at, d) (swap-still f r new at p g)
-  point-still f (Mark r said) i = record { same = refl; stands = record { j = j; behind = h; inn = i } }
-  point-still f (Release r said) i = record { same = refl; stands = record { j = j; behind = h; inn = i } }
+  stage-still f r (Swap e new) (at, p, g, d, q) = rw (asks-same J j r at, d) (swap-still f r new at p g)
+  stage-still f r (Mark said) i = record { same = refl; stands = record { j = j; behind = h; inn = i } }
+  stage-still f r (Release said) i = record { same = refl; stands = record { j = j; behind = h; inn = i } }
 
 pub stale :
-    (K : Rules) (J : Job) → FineJob K J → (n : ℕ) (x : Shared) (p : Point) → Old K J n x → Stands J n x p →
-    Still J n x (paceOf (J .code) x p)
-stale K J f n x p o t = point-still K J n x o (t .j) (t .behind) f p (t .inn)
+    (K : Rules) (J : Job) → FineJob K J → (n : ℕ) (x : Shared) (r : Run) (at : Stage) → Old K J n x → Stands J n x r at →
+    Still J n x (paceOf (J .code) x r at)
+stale K J f n x r at o t = stage-still K J n x o (t .j) (t .behind) f r at (t .inn)

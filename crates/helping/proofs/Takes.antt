@@ -6,7 +6,7 @@ use mathlib.Core.Path.{_≡_, refl, sym, ap, _∙_, subst}
 use mathlib.Core.Logic.{inl, inr, _≢_}
 use mathlib.Core.List.{[], _∷_}
 use lib.ListN.{getD}
-use Rattle.parts.specs.declared.Holder.the-variants.{Sheet}
+use Rattle.parts.specs.declared.Holder.the-variants.{By}
 use Rattle.parts.specs.declared.LockWord.{LockWord}
 use Rattle.steps.specs.declared.Point.{Point}
 use Rattle.steps.specs.declared.Point.the-variants.{LookAgain}
@@ -48,7 +48,7 @@ module _ (K : Rules) (E : Scene) (T : Tale) (st : ℕ → Status) (o : Ok K E T 
   wonStatus = record { kind = current; job = wonJob; turn = suc t; front = 0 }
 
   abbrev heldWord : LockWord
-  heldWord = record { turn = suc t; holder = Sheet own }
+  heldWord = record { turn = suc t; holder = By own }
 
   abbrev after : ℕ → Status
   after = put st own wonStatus

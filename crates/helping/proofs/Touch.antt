@@ -7,15 +7,16 @@ use native.Mathlib.Nat.{le-refl}
 use native.Mathlib.Omega.{arith}
 use lib.Dec.{eqb}
 use Rattle.parts.specs.Pick.{pick}
+use Rattle.parts.specs.declared.Follows.{Follows}
+use Rattle.parts.specs.declared.Follows.the-variants as follows
 use Rattle.parts.specs.declared.Instr.{Instr}
 use Rattle.parts.specs.declared.Reading.{Reading}
-use Rattle.steps.specs.declared.Point.{Point}
-use Rattle.steps.specs.declared.Point.the-variants.{Look, Grab, LookAgain, ReadMark, Read, Commit, Swap, Mark, Release}
 use Rattle.steps.specs.declared.Run.{Run}
-use Rattle.alone.proofs.Bounds.{follows-all}
-use Rattle.helping.specs.Machine.{Rules, Shared, Act, fin, go, touch, actAt, target, put, heldOf, swapOf, readOf, commitOf, paceOf}
-use Rattle.helping.specs.Ideal.{Job, raised, idealOf, actIn, Touches, Guarded, farOf, FineJob, At, In, Stands}
-use Rattle.helping.specs.Ok.{todoAt}
+use Rattle.steps.specs.declared.Stage.{Stage}
+use Rattle.steps.specs.declared.Stage.the-variants.{Read, Commit, Swap, Mark, Release}
+use Rattle.helping.specs.Machine.{Rules, Shared, Pace, Act, fin, go, touch, actAt, target, put, loggedOf, heldOf, swapOf, readOf, followOf, commitOf, paceOf}
+use Rattle.helping.specs.Ideal.{Job, raised, idealOf, actIn, Touches, Guarded, farOf, FineJob, At, In, Stands, leftAt}
+use Rattle.helping.specs.Ok.{Releasing}
 use Rattle.helping.proofs.Put.{put-case, put-other}
 use Rattle.helping.proofs.Run.{next-in}
 use Rattle.helping.proofs.Inside.{touches, touch-far, names-in, asks-same}
@@ -59,91 +60,79 @@ module _ (K : Rules) (J : Job) (f : FineJob K J) (x : Shared) where
             (λ z. omega (arith, ap (λ k. x .word k .count) z, swap-count (x .word w) e new)) (λ z. le-refl _);
       }
 
-  in-touched : (j : ℕ) (p : Point) → In J j x p → Touched K J x (paceOf (J .code) x p .shared)
+  in-touched : (j : ℕ) (r : Run) (s : Stage) → In J j x r s → Touched K J x (paceOf (J .code) x r s .shared)
   unfolding paceOf
-  in-touched j Look i = absurd i
-  in-touched j (Grab seen) i = absurd i
-  in-touched j (LookAgain won) i = absurd i
-  in-touched j (ReadMark seen won) i = absurd i
-  in-touched j (Read r) i = read-touched (actAt (J .code) (r .next) (r .registers)) r
-  in-touched j (Commit r u) i = commit-touched (actAt (J .code) (r .next) (r .registers)) r u
-  in-touched j (Swap r e new) (at, p, g, d, q) =
+  in-touched j r Read i = read-touched (actAt (J .code) (r .next) (r .registers)) r
+  in-touched j r (Commit u) i = commit-touched (actAt (J .code) (r .next) (r .registers)) r u
+  in-touched j r (Swap e new) (at, p, g, d, q) =
       rw (asks-same J j r at)
       (swap-touched (target (actIn J j)) e new (names-in K J f j (touches (actIn J j) _ _ g)))
-  in-touched j (Mark r said) i = untouched
-  in-touched j (Release r said) i = untouched
+  in-touched j r (Mark said) i = untouched
+  in-touched j r (Release said) i = untouched
 
 pub touched :
-    (K : Rules) (J : Job) → FineJob K J → (n : ℕ) (x : Shared) (p : Point) → Stands J n x p →
-    Touched K J x (paceOf (J .code) x p .shared)
-touched K J f n x p t = in-touched K J f x (t .j) p (t .inn)
+    (K : Rules) (J : Job) → FineJob K J → (n : ℕ) (x : Shared) (r : Run) (at : Stage) → Stands J n x r at →
+    Touched K J x (paceOf (J .code) x r at .shared)
+touched K J f n x r at t = in-touched K J f x (t .j) r at (t .inn)
 
--- a point of a run of this sheet, which won at this turn
-abbrev pub OnRun : ℕ → ℕ → Point → Type 0
-OnRun s won Look = ⊥
-OnRun s won (Grab seen) = ⊥
-OnRun s won (LookAgain at) = ⊥
-OnRun s won (ReadMark seen at) = ⊥
-OnRun s won (Read r) = (r .sheet ≡ s) × (r .won ≡ won)
-OnRun s won (Commit r u) = (r .sheet ≡ s) × (r .won ≡ won)
-OnRun s won (Swap r e new) = (r .sheet ≡ s) × (r .won ≡ won)
-OnRun s won (Mark r said) = (r .sheet ≡ s) × (r .won ≡ won)
-OnRun s won (Release r said) = ⊥
+-- a run of this sheet, which won at this turn, up to its mark
+abbrev pub OnRun : ℕ → ℕ → Run → Stage → Type 0
+OnRun s won r at = (r .sheet ≡ s) × (r .won ≡ won) × (Releasing at → ⊥)
 
-read-on :
-    (a : Act) (x : Shared) (r : Run) (s won : ℕ) → (r .sheet ≡ s) × (r .won ≡ won) → OnRun s won (readOf a x r .point)
-read-on (fin said) x r s won o = o
-read-on (go rs n) x r s won o = o
-read-on (touch w f) x r s won o = o
+abbrev OnFrom : Run → Pace → Type 0
+OnFrom r b = OnRun (r .sheet) (r .won) (b .run) (b .stage)
 
-commit-on :
-    (a : Act) (x : Shared) (r : Run) (u : Reading) (s won : ℕ) → (r .sheet ≡ s) × (r .won ≡ won) →
-    OnRun s won (commitOf a x r u .point)
-commit-on (fin said) x r u s won o = o
-commit-on (go rs n) x r u s won o = o
-commit-on (touch w f) x r u s won o =
-    follows-all (OnRun s won) (f (heldOf (x .log (r .place)) u .value)) (λ rs. o) (λ new. o)
+read-on : (a : Act) (x : Shared) (r : Run) → OnFrom r (readOf a x r)
+read-on (fin said) x r = (refl, refl, λ z. z)
+read-on (go rs n) x r = (refl, refl, λ z. z)
+read-on (touch w f) x r = (refl, refl, λ z. z)
 
-pub run-on :
-    (code : List Instr) (x : Shared) (p : Point) (s won : ℕ) → OnRun s won p → OnRun s won (paceOf code x p .point)
-unfolding paceOf
-run-on code x Look s won o = absurd o
-run-on code x (Grab seen) s won o = absurd o
-run-on code x (LookAgain at) s won o = absurd o
-run-on code x (ReadMark seen at) s won o = absurd o
-run-on code x (Read r) s won o = read-on (actAt code (r .next) (r .registers)) x r s won o
-run-on code x (Commit r u) s won o = commit-on (actAt code (r .next) (r .registers)) x r u s won o
-run-on code x (Swap r e new) s won o = o
-run-on code x (Mark r said) s won o = o
-run-on code x (Release r said) s won o = absurd o
+follow-on : (f : Follows) (x : Shared) (r : Run) (e : Reading) → OnFrom r (followOf f x r e)
+follow-on (follows.Done rs) x r e = (refl, refl, λ z. z)
+follow-on (follows.Swap new) x r e = (refl, refl, λ z. z)
+
+commit-on : (a : Act) (x : Shared) (r : Run) (u : Reading) → OnFrom r (commitOf a x r u)
+commit-on (fin said) x r u = (refl, refl, λ z. z)
+commit-on (go rs n) x r u = (refl, refl, λ z. z)
+commit-on (touch w f) x r u = let e = heldOf (x .log (r .place)) u in follow-on (f (e .value)) x (loggedOf r) e
 
 -- it is at an instruction, and not past them
-abbrev pub Going : Point → Type 0
-Going Look = ⊥
-Going (Grab seen) = ⊥
-Going (LookAgain at) = ⊥
-Going (ReadMark seen at) = ⊥
-Going (Read r) = Unit {0}
-Going (Commit r u) = Unit {0}
-Going (Swap r e new) = Unit {0}
-Going (Mark r said) = ⊥
-Going (Release r said) = ⊥
+abbrev pub Going : Stage → Type 0
+Going Read = Unit {0}
+Going (Commit u) = Unit {0}
+Going (Swap e new) = Unit {0}
+Going (Mark said) = ⊥
+Going (Release said) = ⊥
+
+pub run-on : (code : List Instr) (x : Shared) (r : Run) (at : Stage) → Going at → OnFrom r (paceOf code x r at)
+unfolding paceOf
+run-on code x r Read g = read-on (actAt code (r .next) (r .registers)) x r
+run-on code x r (Commit u) g = commit-on (actAt code (r .next) (r .registers)) x r u
+run-on code x r (Swap e new) g = (refl, refl, λ z. z)
+run-on code x r (Mark said) g = absurd g
+run-on code x r (Release said) g = absurd g
+
+-- what is left after a step
+abbrev leftBy : ℕ → Pace → ℕ
+leftBy most b = leftAt most (b .run) (b .stage)
 
 -- an instruction that has room to go on
 module _ (most : ℕ) (x : Shared) (r : Run) where
-  read-paced : (a : Act) → r .next + farOf a < most → todoAt most (readOf a x r .point) < todoAt most (Read r)
+  read-paced : (a : Act) → r .next + farOf a < most → leftBy most (readOf a x r) < leftAt most r Read
   read-paced (fin said) h = omega arith
   read-paced (go rs n) h = omega arith
   read-paced (touch w f) h = omega arith
 
   commit-paced :
       (u : Reading) (a : Act) → Touches a → r .next + farOf a < most →
-      todoAt most (commitOf a x r u .point) < todoAt most (Commit r u)
+      leftBy most (commitOf a x r u) < leftAt most r (Commit u)
   commit-paced u (fin said) t h = absurd t
   commit-paced u (go rs n) t h = absurd t
-  commit-paced u (touch w f) t h =
-      follows-all (λ p. todoAt most p < todoAt most (Commit r u)) (f (heldOf (x .log (r .place)) u .value))
-      (λ rs. omega arith) (λ new. omega arith)
+  commit-paced u (touch w f) t h = by (f (heldOf (x .log (r .place)) u .value))
+    where
+      by : (g : Follows) → leftBy most (followOf g x (loggedOf r) (heldOf (x .log (r .place)) u)) < leftAt most r (Commit u)
+      by (follows.Done rs) = omega arith
+      by (follows.Swap new) = omega arith
 
 -- "3(n - 1) + 1": each step of a run brings it nearer to its end
 module _ (K : Rules) (J : Job) (f : FineJob K J) (x : Shared) (j : ℕ) where
@@ -151,22 +140,18 @@ module _ (K : Rules) (J : Job) (f : FineJob K J) (x : Shared) (j : ℕ) where
   room r at = omega (arith, at .next, f .short, f .inside _ (idealOf J j .registers) (next-in K J f j))
 
   in-paced :
-      (p : Point) → In J j x p → Going p → todoAt (K .most) (paceOf (J .code) x p .point) < todoAt (K .most) p
+      (r : Run) (s : Stage) → In J j x r s → Going s → leftBy (K .most) (paceOf (J .code) x r s) < leftAt (K .most) r s
   unfolding paceOf
-  in-paced Look i g = absurd g
-  in-paced (Grab seen) i g = absurd g
-  in-paced (LookAgain won) i g = absurd g
-  in-paced (ReadMark seen won) i g = absurd g
-  in-paced (Read r) (at, p) g =
+  in-paced r Read (at, p) g =
       rw (asks-same J j r at) (read-paced (K .most) x r (actIn J j) (room r at))
-  in-paced (Commit r u) (at, p, t, w) g =
+  in-paced r (Commit u) (at, p, t, w) g =
       rw (asks-same J j r at) (commit-paced (K .most) x r u (actIn J j) t (room r at))
-  in-paced (Swap r e new) (at, p, g, d, q) h =
+  in-paced r (Swap e new) (at, p, g, d, q) h =
       omega (arith, room r at, touch-far (actIn J j) (touches (actIn J j) _ _ g))
-  in-paced (Mark r said) i g = absurd g
-  in-paced (Release r said) i g = absurd g
+  in-paced r (Mark said) i g = absurd g
+  in-paced r (Release said) i g = absurd g
 
 pub paced :
-    (K : Rules) (J : Job) → FineJob K J → (n : ℕ) (x : Shared) (p : Point) → Stands J n x p → Going p →
-    todoAt (K .most) (paceOf (J .code) x p .point) < todoAt (K .most) p
-paced K J f n x p t g = in-paced K J f x (t .j) p (t .inn) g
+    (K : Rules) (J : Job) → FineJob K J → (n : ℕ) (x : Shared) (r : Run) (at : Stage) → Stands J n x r at → Going at →
+    leftAt (K .most) (paceOf (J .code) x r at .run) (paceOf (J .code) x r at .stage) < leftAt (K .most) r at
+paced K J f n x r at t g = in-paced K J f x (t .j) r at (t .inn) g

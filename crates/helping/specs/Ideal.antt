@@ -8,16 +8,16 @@ use mathlib.Core.List.{List}
 use lib.ListN.{length}
 use Rattle.parts.specs.Instr.{onFollows}
 use Rattle.parts.specs.Parts.{registers0}
+use Rattle.parts.specs.declared.Fill.{Fill}
+use Rattle.parts.specs.declared.Fill.the-variants.{Empty, Filled}
 use Rattle.parts.specs.declared.Follows.{Follows}
 use Rattle.parts.specs.declared.Follows.the-variants as follows
 use Rattle.parts.specs.declared.Instr.{Instr}
 use Rattle.parts.specs.declared.Reading.{Reading}
 use Rattle.parts.specs.declared.Registers.{Registers}
-use Rattle.parts.specs.declared.Slot.{Slot}
-use Rattle.parts.specs.declared.Slot.the-variants.{Empty, Filled}
-use Rattle.steps.specs.declared.Point.{Point}
-use Rattle.steps.specs.declared.Point.the-variants.{Look, Grab, LookAgain, ReadMark, Read, Commit, Swap, Mark, Release}
 use Rattle.steps.specs.declared.Run.{Run}
+use Rattle.steps.specs.declared.Stage.{Stage}
+use Rattle.steps.specs.declared.Stage.the-variants.{Read, Commit, Swap, Mark, Release}
 use Rattle.helping.specs.Machine.{Rules, Shared, Act, fin, go, touch, actAt, target, put, Pace}
 
 -- a sheet that won: its program, its lock, and the words when it won
@@ -70,7 +70,7 @@ Follow (fin said) v x = ⊥
 Follow (go rs n) v x = ⊥
 Follow (touch w f) v x = f v ≡ x
 
-abbrev pub entryIn : Job → Shared → ℕ → Slot
+abbrev pub entryIn : Job → Shared → ℕ → Fill
 entryIn J x n = x .log (idealOf J n .place)
 
 -- word q is one of the words, and lock l guards it
@@ -114,27 +114,23 @@ pub record At (J : Job) (j : ℕ) (r : Run) : Type 0 where
   pub next : r .next ≡ idealOf J j .next
   pub registers : r .registers ≡ idealOf J j .registers
 
--- a point of a run, inside instruction j of the ideal run. A run that has read, while its entry is empty, has read the present
+-- a run at a stage, inside instruction j of the ideal run. A run that has read, while its entry is empty, has read the present
 -- word.
-abbrev pub In : Job → ℕ → Shared → Point → Type 0
-In J j x Look = ⊥
-In J j x (Grab seen) = ⊥
-In J j x (LookAgain won) = ⊥
-In J j x (ReadMark seen won) = ⊥
-In J j x (Read r) = At J j r × (r .place ≡ idealOf J j .place)
-In J j x (Commit r u) =
+abbrev pub In : Job → ℕ → Shared → Run → Stage → Type 0
+In J j x r Read = At J j r × (r .place ≡ idealOf J j .place)
+In J j x r (Commit u) =
     At J j r × (r .place ≡ idealOf J j .place) × Touches (actIn J j) ×
     (entryIn J x j ≡ Empty → u ≡ x .word (target (actIn J j)))
-In J j x (Swap r e new) =
+In J j x r (Swap e new) =
     At J j r × (r .place ≡ suc (idealOf J j .place)) × Follow (actIn J j) (metIn J j .value) (follows.Swap new) ×
     (e ≡ metIn J j) × (entryIn J x j ≡ Filled (metIn J j))
-In J j x (Mark r said) = At J j r × (r .place ≡ idealOf J j .place) × (actIn J j ≡ fin said)
-In J j x (Release r said) = At J j r × (r .place ≡ idealOf J j .place) × (actIn J j ≡ fin said)
+In J j x r (Mark said) = At J j r × (r .place ≡ idealOf J j .place) × (actIn J j ≡ fin said)
+In J j x r (Release said) = At J j r × (r .place ≡ idealOf J j .place) × (actIn J j ≡ fin said)
 
-pub record Stands (J : Job) (n : ℕ) (x : Shared) (p : Point) : Type 0 where
+pub record Stands (J : Job) (n : ℕ) (x : Shared) (r : Run) (at : Stage) : Type 0 where
   pub j : ℕ
   pub behind : j ≤ n
-  pub inn : In J j x p
+  pub inn : In J j x r at
 
 -- what a step may do to the shared state, as any other run of the sheet sees it
 pub record Moved (J : Job) (n : ℕ) (x : Shared) (n′ : ℕ) (x′ : Shared) : Type 0 where
@@ -149,17 +145,13 @@ pub record Moved (J : Job) (n : ℕ) (x : Shared) (n′ : ℕ) (x′ : Shared) :
 pub record Kept (K : Rules) (J : Job) (n : ℕ) (x : Shared) (b : Pace) : Type 0 where
   pub to : ℕ
   pub inv : Inv K J to (b .shared)
-  pub stands : Stands J to (b .shared) (b .point)
+  pub stands : Stands J to (b .shared) (b .run) (b .stage)
   pub moved : Moved J n x to (b .shared)
 
--- the steps that a run has left, at most, up to its mark; d instructions follow the one that it is at
-abbrev pub leftAt : ℕ → Point → ℕ
-leftAt most Look = 0
-leftAt most (Grab seen) = 0
-leftAt most (LookAgain won) = 0
-leftAt most (ReadMark seen won) = 0
-leftAt most (Read r) = (most - 1 - r .next) * 3 + 1
-leftAt most (Commit r u) = (most - 1 - r .next) * 3
-leftAt most (Swap r e new) = (most - 1 - r .next) * 3 - 1
-leftAt most (Mark r said) = 0
-leftAt most (Release r said) = 0
+-- the steps that a run has left, at most; most - 1 - next instructions follow the one that it is at
+abbrev pub leftAt : ℕ → Run → Stage → ℕ
+leftAt most r Read = (most - 1 - r .next) * 3 + 3
+leftAt most r (Commit u) = (most - 1 - r .next) * 3 + 2
+leftAt most r (Swap e new) = (most - 1 - r .next) * 3 + 1
+leftAt most r (Mark said) = 2
+leftAt most r (Release said) = 1

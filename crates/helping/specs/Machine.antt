@@ -9,22 +9,24 @@ use lib.Dec.{eqb}
 use lib.ListN.{getD}
 use Rattle.parts.specs.Instr.{asksOf, followsOf, onAsks, onFollows}
 use Rattle.parts.specs.Parts.{instr0}
-use Rattle.parts.specs.Pick.{pick, onHolder, onSlot}
+use Rattle.parts.specs.Pick.{pick, onHolder, onFill}
 use Rattle.parts.specs.declared.Answer.the-variants.{NotTaken}
+use Rattle.parts.specs.declared.Fill.{Fill}
+use Rattle.parts.specs.declared.Fill.the-variants.{Empty, Filled}
 use Rattle.parts.specs.declared.Follows.{Follows}
-use Rattle.parts.specs.declared.Holder.the-variants.{Free, Sheet}
+use Rattle.parts.specs.declared.Holder.the-variants.{Free, By}
 use Rattle.parts.specs.declared.Instr.{Instr}
 use Rattle.parts.specs.declared.LockWord.{LockWord}
 use Rattle.parts.specs.declared.Reading.{Reading}
 use Rattle.parts.specs.declared.Registers.{Registers}
-use Rattle.parts.specs.declared.Slot.{Slot}
-use Rattle.parts.specs.declared.Slot.the-variants.{Empty, Filled}
 use Rattle.steps.specs.Places.{helpedOf}
 use Rattle.steps.specs.Try.{startOf, answerOf}
 use Rattle.steps.specs.Worker.{worker0, lookingOf}
 use Rattle.steps.specs.declared.Point.{Point}
-use Rattle.steps.specs.declared.Point.the-variants.{Look, Grab, LookAgain, ReadMark, Read, Commit, Swap, Mark, Release}
+use Rattle.steps.specs.declared.Point.the-variants.{Look, Grab, LookAgain, ReadMark}
 use Rattle.steps.specs.declared.Run.{Run}
+use Rattle.steps.specs.declared.Stage.{Stage}
+use Rattle.steps.specs.declared.Stage.the-variants.{Read, Commit, Swap, Mark, Release}
 use Rattle.steps.specs.declared.State.{State}
 use Rattle.steps.specs.declared.State.the-variants.{UnderWay, Finished}
 use Rattle.steps.specs.declared.Worker.{Worker}
@@ -44,7 +46,7 @@ pub record Scene : Type 0 where
   pub lock : ℕ → LockWord
   pub program : ℕ → List Instr
   pub done : ℕ → Bool
-  pub log : ℕ → ℕ → Slot
+  pub log : ℕ → ℕ → Fill
   pub worker : ℕ → Worker
 
 -- f, but x at k
@@ -87,7 +89,7 @@ setDone E s =
 -- what a run of a sheet shares with the others of that sheet: the words, and the sheet's log
 pub record Shared : Type 0 where
   pub word : ℕ → Reading
-  pub log : ℕ → Slot
+  pub log : ℕ → Fill
 
 abbrev pub sharedOf : Scene → ℕ → Shared
 sharedOf E s = record { word = E .word; log = E .log s }
@@ -132,8 +134,8 @@ loggedOf r =
 
 -- "Commit: if the log entry at the place is empty it takes the value and count read; either way the worker goes on with what the
 -- entry holds"
-abbrev pub heldOf : Slot → Reading → Reading
-heldOf slot u = onSlot slot u (λ first. first)
+abbrev pub heldOf : Fill → Reading → Reading
+heldOf fill u = onFill fill u (λ first. first)
 
 -- "Swap: if the word's value and count equal the entry's, the word takes the new value and its count rises by one"
 unfoldable pub swapOf : Reading → Reading → ℕ → Reading
@@ -141,44 +143,47 @@ swapOf u e new =
     pick (eqb (u .value) (e .value))
     (pick (eqb (u .count) (e .count)) (record { value = new; count = suc (u .count) }) u) u
 
--- one step of a run: what it shares, and the point that it comes to
+-- one step of a run: what it shares, the run after it, and the stage that it comes to
 pub record Pace : Type 0 where
   pub shared : Shared
-  pub point : Point
+  pub run : Run
+  pub stage : Stage
+
+abbrev pub pointOf : Pace → Point
+pointOf b = Point.Run (b .run) (b .stage)
 
 abbrev pub readOf : Act → Shared → Run → Pace
-readOf (fin said) x r = record { shared = x; point = Mark r said }
-readOf (go rs n) x r = record { shared = x; point = Read (ontoOf r n rs) }
-readOf (touch w f) x r = record { shared = x; point = Commit r (x .word w) }
+readOf (fin said) x r = record { shared = x; run = r; stage = Mark said }
+readOf (go rs n) x r = record { shared = x; run = ontoOf r n rs; stage = Read }
+readOf (touch w f) x r = record { shared = x; run = r; stage = Commit (x .word w) }
 
-abbrev pub followOf : Follows → Run → Reading → Point
-followOf f r e = onFollows f (λ rs. Read (ontoOf r 0 rs)) (λ new. Swap r e new)
-
-abbrev pub commitOf : Act → Shared → Run → Reading → Pace
-commitOf (fin said) x r u = record { shared = x; point = Commit r u }
-commitOf (go rs n) x r u = record { shared = x; point = Commit r u }
-commitOf (touch w f) x r u =
-    let e = heldOf (x .log (r .place)) u in
+abbrev pub followOf : Follows → Shared → Run → Reading → Pace
+followOf f x r e =
     record {
-      shared = record { word = x .word; log = put (x .log) (r .place) (Filled e) };
-      point = followOf (f (e .value)) (loggedOf r) e;
+      shared = x;
+      run = onFollows f (λ rs. ontoOf r 0 rs) (λ new. r);
+      stage = onFollows f (λ rs. Read) (λ new. Swap e new);
     }
 
-unfoldable pub paceOf : List Instr → Shared → Point → Pace
-paceOf code x Look = record { shared = x; point = Look }
-paceOf code x (Grab seen) = record { shared = x; point = Grab seen }
-paceOf code x (LookAgain won) = record { shared = x; point = LookAgain won }
-paceOf code x (ReadMark seen won) = record { shared = x; point = ReadMark seen won }
-paceOf code x (Read r) = readOf (actAt code (r .next) (r .registers)) x r
-paceOf code x (Commit r u) = commitOf (actAt code (r .next) (r .registers)) x r u
-paceOf code x (Swap r e new) =
+abbrev pub commitOf : Act → Shared → Run → Reading → Pace
+commitOf (fin said) x r u = record { shared = x; run = r; stage = Commit u }
+commitOf (go rs n) x r u = record { shared = x; run = r; stage = Commit u }
+commitOf (touch w f) x r u =
+    let e = heldOf (x .log (r .place)) u in
+    followOf (f (e .value)) (record { word = x .word; log = put (x .log) (r .place) (Filled e) }) (loggedOf r) e
+
+unfoldable pub paceOf : List Instr → Shared → Run → Stage → Pace
+paceOf code x r Read = readOf (actAt code (r .next) (r .registers)) x r
+paceOf code x r (Commit u) = commitOf (actAt code (r .next) (r .registers)) x r u
+paceOf code x r (Swap e new) =
     let w = target (actAt code (r .next) (r .registers)) in
     record {
       shared = record { word = put (x .word) w (swapOf (x .word w) e new); log = x .log };
-      point = Read (ontoOf r 0 (r .registers));
+      run = ontoOf r 0 (r .registers);
+      stage = Read;
     }
-paceOf code x (Mark r said) = record { shared = x; point = Mark r said }
-paceOf code x (Release r said) = record { shared = x; point = Release r said }
+paceOf code x r (Mark said) = record { shared = x; run = r; stage = Mark said }
+paceOf code x r (Release said) = record { shared = x; run = r; stage = Release said }
 
 -- one accepted step more
 abbrev pub movedOf : Worker → State → Worker
@@ -187,7 +192,7 @@ movedOf k s = record { state = s; lock = k .lock; own = k .own; steps = suc (k .
 -- "2. Grab", "7. Release"
 unfoldable pub grabOf : LockWord → ℕ → ℕ → LockWord
 grabOf l seen own =
-    onHolder (l .holder) (pick (eqb (l .turn) seen) (record { turn = suc seen; holder = Sheet own }) l) (λ s. l)
+    onHolder (l .holder) (pick (eqb (l .turn) seen) (record { turn = suc seen; holder = By own }) l) (λ s. l)
 
 unfoldable pub releaseOf : LockWord → ℕ → ℕ → LockWord
 releaseOf l won sheet =
@@ -198,23 +203,23 @@ releaseOf l won sheet =
 unfoldable pub lookTo : ℕ → LockWord → State
 lookTo last l =
     onHolder (l .holder) (pick (eqb (l .turn) last) (Finished NotTaken) (UnderWay (Grab (l .turn))))
-    (λ s. UnderWay (Read (startOf s (l .turn))))
+    (λ s. UnderWay (Point.Run (startOf s (l .turn)) Read))
 
 unfoldable pub markTo : Bool → LockWord → ℕ → ℕ → State
 markTo done seen won own =
-    pick done (UnderWay (Read (startOf own won)))
+    pick done (UnderWay (Point.Run (startOf own won) Read))
     (onHolder (seen .holder) (Finished NotTaken)
-    (λ s. pick (eqb s own) (UnderWay (Read (startOf own won))) (UnderWay (Read (startOf s (seen .turn))))))
+    (λ s. pick (eqb s own) (UnderWay (Point.Run (startOf own won) Read)) (UnderWay (Point.Run (startOf s (seen .turn)) Read))))
 
 -- worker i, which is k, goes on in this state
 abbrev pub onTo : Scene → ℕ → Worker → State → Scene
 onTo E i k s = setWorker E i (movedOf k s)
 
--- a step of a run of sheet s
-abbrev pub pacedOf : Scene → ℕ → Worker → ℕ → Point → Scene
-pacedOf E i k s p =
-    let after = paceOf (E .program s) (sharedOf E s) p in
-    onTo (setShared E s (after .shared)) i k (UnderWay (after .point))
+-- a step of a run
+abbrev pub pacedOf : Scene → ℕ → Worker → Run → Stage → Scene
+pacedOf E i k r at =
+    let after = paceOf (E .program (r .sheet)) (sharedOf E (r .sheet)) r at in
+    onTo (setShared E (r .sheet) (after .shared)) i k (UnderWay (pointOf after))
 
 -- one step of worker i, which is k, under way at a point
 unfoldable pub stepAt : Rules → Scene → ℕ → Worker → Point → Scene
@@ -223,20 +228,20 @@ stepAt K E i k (Grab seen) =
     onTo (setLock E (k .lock) (grabOf (E .lock (k .lock)) seen (k .own))) i k (UnderWay (LookAgain (suc seen)))
 stepAt K E i k (LookAgain won) = onTo E i k (UnderWay (ReadMark (E .lock (k .lock)) won))
 stepAt K E i k (ReadMark seen won) = onTo E i k (markTo (E .done (k .own)) seen won (k .own))
-stepAt K E i k (Read r) = pacedOf E i k (r .sheet) (Read r)
-stepAt K E i k (Commit r u) = pacedOf E i k (r .sheet) (Commit r u)
-stepAt K E i k (Swap r e new) = pacedOf E i k (r .sheet) (Swap r e new)
-stepAt K E i k (Mark r said) = onTo (setDone E (r .sheet)) i k (UnderWay (Release r said))
-stepAt K E i k (Release r said) =
+stepAt K E i k (Point.Run r Read) = pacedOf E i k r Read
+stepAt K E i k (Point.Run r (Commit u)) = pacedOf E i k r (Commit u)
+stepAt K E i k (Point.Run r (Swap e new)) = pacedOf E i k r (Swap e new)
+stepAt K E i k (Point.Run r (Mark said)) = onTo (setDone E (r .sheet)) i k (UnderWay (Point.Run r (Release said)))
+stepAt K E i k (Point.Run r (Release said)) =
     onTo (setLock E (k .lock) (releaseOf (E .lock (k .lock)) (r .won) (r .sheet))) i k
     (Finished (answerOf r (k .own) said))
 
 -- a sheet that begin may take: "It is in use while a held lock names it, or a worker under way has it as its own or as the one it
 -- helps."
 pub record Unused (E : Scene) (s : ℕ) : Type 0 where
-  pub named : (l : ℕ) → E .lock l .holder ≢ Sheet s
+  pub named : (l : ℕ) → E .lock l .holder ≢ By s
   pub owned : (i : ℕ) (p : Point) → E .worker i .state ≡ UnderWay p → E .worker i .own ≢ s
-  pub helped : (i : ℕ) (p : Point) → E .worker i .state ≡ UnderWay p → helpedOf p ≢ Sheet s
+  pub helped : (i : ℕ) (p : Point) → E .worker i .state ≡ UnderWay p → helpedOf p ≢ By s
 
 -- "Begin (worker, lock, job record) takes a sheet, copies the job, empties the log, clears the mark."
 abbrev pub begunOf : Scene → ℕ → ℕ → List Instr → ℕ → Scene
@@ -281,8 +286,4 @@ stepTale T E i k Look = T
 stepTale T E i k (Grab seen) = grabTale T i (k .lock) (E .lock (k .lock)) seen
 stepTale T E i k (LookAgain won) = T
 stepTale T E i k (ReadMark seen won) = T
-stepTale T E i k (Read r) = T
-stepTale T E i k (Commit r u) = T
-stepTale T E i k (Swap r e new) = T
-stepTale T E i k (Mark r said) = T
-stepTale T E i k (Release r said) = T
+stepTale T E i k (Point.Run r at) = T

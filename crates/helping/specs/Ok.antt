@@ -8,23 +8,25 @@ use lib.ListN.{length, getD}
 use Rattle.parts.specs.Numbers.{longestRun, trySteps}
 use Rattle.parts.specs.declared.Answer.{Answer}
 use Rattle.parts.specs.declared.Answer.the-variants.{RanYes, RanNo, NotTaken}
+use Rattle.parts.specs.declared.Fill.{Fill}
+use Rattle.parts.specs.declared.Fill.the-variants.{Empty}
 use Rattle.parts.specs.declared.Holder.{Holder}
-use Rattle.parts.specs.declared.Holder.the-variants.{Free, Sheet}
+use Rattle.parts.specs.declared.Holder.the-variants.{Free, By}
 use Rattle.parts.specs.declared.Instr.{Instr}
 use Rattle.parts.specs.declared.LockWord.{LockWord}
 use Rattle.parts.specs.declared.Reading.{Reading}
-use Rattle.parts.specs.declared.Slot.{Slot}
-use Rattle.parts.specs.declared.Slot.the-variants.{Empty}
 use Rattle.steps.specs.Worker.{worker0}
 use Rattle.steps.specs.declared.Point.{Point}
-use Rattle.steps.specs.declared.Point.the-variants.{Look, Grab, LookAgain, ReadMark, Read, Commit, Swap, Mark, Release}
+use Rattle.steps.specs.declared.Point.the-variants.{Look, Grab, LookAgain, ReadMark}
 use Rattle.steps.specs.declared.Run.{Run}
+use Rattle.steps.specs.declared.Stage.{Stage}
+use Rattle.steps.specs.declared.Stage.the-variants.{Read, Commit, Swap, Mark, Release}
 use Rattle.steps.specs.declared.State.{State}
 use Rattle.steps.specs.declared.State.the-variants.{Idle, UnderWay, Finished}
 use Rattle.steps.specs.declared.Worker.{Worker}
 use Rattle.alone.specs.Alone.{aloneOf}
 use Rattle.alone.specs.Jobs.{Try, givesOf, times}
-use Rattle.helping.specs.Machine.{Rules, Scene, Shared, Tale, actAt, target, stepAt}
+use Rattle.helping.specs.Machine.{Rules, Scene, Shared, Act, Tale, actAt, target, stepAt}
 use Rattle.helping.specs.Ideal.{Job, Touches, farOf, Guarded, Fine, FineJob, Inv, Old, Stands, leftAt}
 
 -- what is known of a sheet: it has not won its lock yet, it holds it, or it has let go of it; the turn under which it won, and
@@ -46,7 +48,7 @@ pub record View : Type 0 where
   pub word : ℕ → Reading
   pub program : ℕ → List Instr
   pub done : ℕ → Bool
-  pub log : ℕ → ℕ → Slot
+  pub log : ℕ → ℕ → Fill
 
 abbrev pub viewOf : Scene → (ℕ → Status) → View
 viewOf E st = record { st = st; word = E .word; program = E .program; done = E .done; log = E .log }
@@ -61,7 +63,7 @@ pub record OnSheet (K : Rules) (v : View) (s : ℕ) : Type 0 where
 abbrev pub SheetOk : Rules → View → (ℕ → LockWord) → ℕ → Kind → Type 0
 SheetOk K v lock s unwon = (v .done s ≡ false) × ((p : ℕ) → v .log s p ≡ Empty)
 SheetOk K v lock s current =
-    OnSheet K v s × (lock (v .st s .job .lock) ≡ record { turn = v .st s .turn; holder = Sheet s }) ×
+    OnSheet K v s × (lock (v .st s .job .lock) ≡ record { turn = v .st s .turn; holder = By s }) ×
     Inv K (v .st s .job) (v .st s .front) (sharedAt v s)
 SheetOk K v lock s past =
     OnSheet K v s × Old K (v .st s .job) (v .st s .front) (sharedAt v s) × (v .done s ≡ true)
@@ -82,24 +84,28 @@ pub record RunOk (v : View) (own l : ℕ) (r : Run) : Type 0 where
 
 -- between looking again, which saw this lock word, and reading the own mark
 pub record MarkOk (v : View) (own l : ℕ) (seen : LockWord) (won : ℕ) : Type 0 where
-  pub holder : (s : ℕ) → seen .holder ≡ Sheet s → Won (v .st s) l (seen .turn)
-  pub itself : seen .holder ≡ Sheet own → Won (v .st own) l won
-  pub other : seen .holder ≢ Sheet own → Lost (v .st own) l won
+  pub holder : (s : ℕ) → seen .holder ≡ By s → Won (v .st s) l (seen .turn)
+  pub itself : seen .holder ≡ By own → Won (v .st own) l won
+  pub other : seen .holder ≢ By own → Lost (v .st own) l won
 
-abbrev pub RunsAt : View → ℕ → ℕ → Run → Point → Type 0
-RunsAt v own l r p =
-    RunOk v own l r × Stands (v .st (r .sheet) .job) (v .st (r .sheet) .front) (sharedAt v (r .sheet)) p
+abbrev pub RunsAt : View → ℕ → ℕ → Run → Stage → Type 0
+RunsAt v own l r at =
+    RunOk v own l r × Stands (v .st (r .sheet) .job) (v .st (r .sheet) .front) (sharedAt v (r .sheet)) r at
+
+-- it is to release its lock
+abbrev pub Releasing : Stage → Type 0
+Releasing Read = ⊥
+Releasing (Commit u) = ⊥
+Releasing (Swap e new) = ⊥
+Releasing (Mark said) = ⊥
+Releasing (Release said) = Unit {0}
 
 abbrev pub PointOk : Rules → View → ℕ → ℕ → Point → Type 0
 PointOk K v own l Look = (v .st own .kind ≡ unwon) × Fine K l (v .program own)
 PointOk K v own l (Grab seen) = (v .st own .kind ≡ unwon) × Fine K l (v .program own) × (seen < K .last)
 PointOk K v own l (LookAgain won) = (v .st own .kind ≡ unwon) ⊎ Won (v .st own) l won
 PointOk K v own l (ReadMark seen won) = MarkOk v own l seen won
-PointOk K v own l (Read r) = RunsAt v own l r (Read r)
-PointOk K v own l (Commit r u) = RunsAt v own l r (Commit r u)
-PointOk K v own l (Swap r e new) = RunsAt v own l r (Swap r e new)
-PointOk K v own l (Mark r said) = RunsAt v own l r (Mark r said)
-PointOk K v own l (Release r said) = RunsAt v own l r (Release r said) × (v .done (r .sheet) ≡ true)
+PointOk K v own l (Point.Run r at) = RunsAt v own l r at × (Releasing at → v .done (r .sheet) ≡ true)
 
 -- the steps that a try has left, at most, at a point
 abbrev pub todoAt : ℕ → Point → ℕ
@@ -107,11 +113,7 @@ todoAt most Look = trySteps most
 todoAt most (Grab seen) = 3 + longestRun most + 2
 todoAt most (LookAgain won) = 2 + longestRun most + 2
 todoAt most (ReadMark seen won) = 1 + longestRun most + 2
-todoAt most (Read r) = leftAt most (Read r) + 2
-todoAt most (Commit r u) = leftAt most (Commit r u) + 2
-todoAt most (Swap r e new) = leftAt most (Swap r e new) + 2
-todoAt most (Mark r said) = 2
-todoAt most (Release r said) = 1
+todoAt most (Point.Run r at) = leftAt most r at
 
 -- a worker, by its state
 abbrev pub StateOk : Rules → View → Worker → State → Type 0
@@ -144,7 +146,7 @@ pub record HeldOk (K : Rules) (T : Tale) (σ : Status) (l turn : ℕ) : Type 0 w
 
 abbrev pub LockOk : Rules → (ℕ → Reading) → Tale → (ℕ → Status) → ℕ → ℕ → Holder → Type 0
 LockOk K word T st l turn Free = FreeOk K word T l turn
-LockOk K word T st l turn (Sheet s) = HeldOk K T (st s) l turn
+LockOk K word T st l turn (By s) = HeldOk K T (st s) l turn
 
 -- a try stands in a list, and what is said of those before it
 pub record Listed (P : List Try → Type 0) (t : Try) (ts : List Try) : Type 0 where
@@ -227,16 +229,20 @@ pub record RunIn (K : Rules) (E : Scene) (r : Run) : Type 0 where
       Touches (actAt (E .program (r .sheet)) (r .next) (r .registers)) →
       target (actAt (E .program (r .sheet)) (r .next) (r .registers)) < length (K .values)
 
+-- at a commit or a swap the instruction asks for a word
+abbrev pub StageIn : Act → Stage → Type 0
+StageIn a Read = Unit {0}
+StageIn a (Commit u) = Touches a
+StageIn a (Swap e new) = Touches a
+StageIn a (Mark said) = Unit {0}
+StageIn a (Release said) = Unit {0}
+
 abbrev pub PointIn : Rules → Scene → Point → Type 0
 PointIn K E Look = Unit {0}
 PointIn K E (Grab seen) = seen < K .last
 PointIn K E (LookAgain won) = Unit {0}
 PointIn K E (ReadMark seen won) = Unit {0}
-PointIn K E (Read r) = RunIn K E r
-PointIn K E (Commit r u) = RunIn K E r × Touches (actAt (E .program (r .sheet)) (r .next) (r .registers))
-PointIn K E (Swap r e new) = RunIn K E r × Touches (actAt (E .program (r .sheet)) (r .next) (r .registers))
-PointIn K E (Mark r said) = RunIn K E r
-PointIn K E (Release r said) = RunIn K E r
+PointIn K E (Point.Run r at) = RunIn K E r × StageIn (actAt (E .program (r .sheet)) (r .next) (r .registers)) at
 
 pub record Ranged (K : Rules) (E : Scene) : Type 0 where
   pub point : (i : ℕ) (p : Point) → E .worker i .state ≡ UnderWay p → PointIn K E p

@@ -12,7 +12,8 @@ use Rattle.parts.specs.declared.Told.the-variants.{Accepted, Refused}
 use Rattle.steps.specs.Worker as worker
 use Rattle.steps.specs.Worker.{onState, collectedOf, droppedOf}
 use Rattle.steps.specs.declared.Point.{Point}
-use Rattle.steps.specs.declared.Point.the-variants.{Look, Grab, LookAgain, ReadMark, Read, Commit, Swap, Mark, Release}
+use Rattle.steps.specs.declared.Point.the-variants.{Look, Grab, LookAgain, ReadMark}
+use Rattle.steps.specs.declared.Stage.the-variants.{Read, Commit, Swap, Mark, Release}
 use Rattle.steps.specs.declared.State.{State}
 use Rattle.steps.specs.declared.State.the-variants.{Idle, UnderWay, Finished}
 use Rattle.steps.specs.declared.Worker.{Worker}
@@ -154,7 +155,7 @@ pub step-read :
     w < workers →
     tag ≡ numberAt s w 0 →
     tag ≡ 5 →
-    (s′ ≡ readNumbers s w) × (unpack s′ ≡ steppedOf (unpack s) w (Read (runNow s w))) →
+    (s′ ≡ readNumbers s w) × (unpack s′ ≡ steppedOf (unpack s) w (Point.Run (runNow s w) Read)) →
     Gives Accepted s′ (stepOf (unpack s) w) (stepNumbers s w)
 unfolding onwardNumbers
 step-read s s′ w tag h e a g =
@@ -166,7 +167,7 @@ pub step-commit :
     w < workers →
     tag ≡ numberAt s w 0 →
     tag ≡ 6 →
-    (s′ ≡ commitNumbers s w) × (unpack s′ ≡ steppedOf (unpack s) w (Commit (runNow s w) (readNow s w))) →
+    (s′ ≡ commitNumbers s w) × (unpack s′ ≡ steppedOf (unpack s) w (Point.Run (runNow s w) (Commit (readNow s w)))) →
     Gives Accepted s′ (stepOf (unpack s) w) (stepNumbers s w)
 unfolding onwardNumbers
 step-commit s s′ w tag h e a g =
@@ -178,7 +179,7 @@ pub step-swap :
     w < workers →
     tag ≡ numberAt s w 0 →
     tag ≡ 7 →
-    (s′ ≡ swapNumbers s w) × (unpack s′ ≡ steppedOf (unpack s) w (Swap (runNow s w) (readNow s w) (numberAt s w 14))) →
+    (s′ ≡ swapNumbers s w) × (unpack s′ ≡ steppedOf (unpack s) w (Point.Run (runNow s w) (Swap (readNow s w) (numberAt s w 14)))) →
     Gives Accepted s′ (stepOf (unpack s) w) (stepNumbers s w)
 unfolding onwardNumbers
 step-swap s s′ w tag h e a g =
@@ -190,7 +191,7 @@ pub step-mark :
     w < workers →
     tag ≡ numberAt s w 0 →
     tag ≡ 8 →
-    (s′ ≡ markNumbers s w) × (unpack s′ ≡ steppedOf (unpack s) w (Mark (runNow s w) (saidNow s w))) →
+    (s′ ≡ markNumbers s w) × (unpack s′ ≡ steppedOf (unpack s) w (Point.Run (runNow s w) (Mark (saidNow s w)))) →
     Gives Accepted s′ (stepOf (unpack s) w) (stepNumbers s w)
 unfolding onwardNumbers
 step-mark s s′ w tag h e a g =
@@ -202,7 +203,7 @@ pub step-release :
     w < workers →
     tag ≡ numberAt s w 0 →
     tag ≡ 9 →
-    (s′ ≡ releaseNumbers s w) × (unpack s′ ≡ steppedOf (unpack s) w (Release (runNow s w) (saidNow s w))) →
+    (s′ ≡ releaseNumbers s w) × (unpack s′ ≡ steppedOf (unpack s) w (Point.Run (runNow s w) (Release (saidNow s w)))) →
     Gives Accepted s′ (stepOf (unpack s) w) (stepNumbers s w)
 unfolding onwardNumbers
 step-release s s′ w tag h e a g =

@@ -30,9 +30,11 @@ use Rattle.steps.specs.Places.{spotOf, runSpot}
 use Rattle.steps.specs.Try.{toOf, ontoOf, loggedOf, readOf, followOf, commitOf, swapOf, effectOf}
 use Rattle.steps.specs.Try as try
 use Rattle.steps.specs.Worker.{movedOf}
-use Rattle.steps.specs.declared.Point.the-variants.{Grab, LookAgain, ReadMark, Read, Commit, Swap, Mark, Release}
+use Rattle.steps.specs.declared.Point.{Point}
+use Rattle.steps.specs.declared.Point.the-variants.{ReadMark}
 use Rattle.steps.specs.declared.Run.{Run}
 use Rattle.steps.specs.declared.Spot.{Spot}
+use Rattle.steps.specs.declared.Stage.the-variants.{Read, Swap, Mark}
 use Rattle.steps.specs.declared.State.{State}
 use Rattle.steps.specs.declared.State.the-variants.{UnderWay, Finished}
 use Rattle.steps.specs.declared.View.{View}
@@ -154,7 +156,7 @@ module _ (s : List ℕ) (w : ℕ) (h : numbers ≤ length s) (b : w < workers) w
   passed s₁ s₂ s₃ over steps next p q e₁ e₂ e₃ =
       does-by s s₃ w _ _ b (row-next s s₂ s₃ w 6 next _ h b (omega arith) (two s s₁ s₂ w 5 steps h b e₁ e₂) e₃) refl refl p
       (simp (e₃, e₂, e₁, p, q))
-      (λ i. UnderWay (Read (runWith (runNow s w) (next-is next over q i) (runNow s w .place) (runNow s w .registers))))
+      (λ i. UnderWay (Point.Run (runWith (runNow s w) (next-is next over q i) (runNow s w .place) (runNow s w .registers)) Read))
 
   pub gone :
       (s₁ s₂ s₃ s₄ : List ℕ) (a x steps next j : ℕ) →
@@ -169,7 +171,7 @@ module _ (s : List ℕ) (w : ℕ) (h : numbers ≤ length s) (b : w < workers) w
       (row-as s s₄ w _ _ r₄ (ap (λ (k : ℕ). set (set (set (set (rowOf s w) 0 5) 3 steps) 6 next) k x) g ∙ register-set _ _ _ _ _ _ _ _ _ _ _ _ _ _ _ a x _ refl))
       refl refl p
       (simp (e₄, e₃, e₂, e₁, p, q, g))
-      (λ i. UnderWay (Read (runWith (runNow s w) (next-is next 0 q i) (runNow s w .place) (withRegister (runNow s w .registers) a x))))
+      (λ i. UnderWay (Point.Run (runWith (runNow s w) (next-is next 0 q i) (runNow s w .place) (withRegister (runNow s w .registers) a x)) Read))
 
   pub halted :
       (s₁ s₂ s₃ : List ℕ) (said : Bool) (steps new : ℕ) →
@@ -180,7 +182,7 @@ module _ (s : List ℕ) (w : ℕ) (h : numbers ≤ length s) (b : w < workers) w
   halted s₁ s₂ s₃ said steps new p q e₁ e₂ e₃ =
       does-by s s₃ w _ _ b (row-next s s₂ s₃ w 14 new _ h b (omega arith) (two s s₁ s₂ w 8 steps h b e₁ e₂) e₃) refl refl p
       (simp (e₃, e₂, e₁, p, q))
-      (λ i. UnderWay (Mark (runNow s w) ((ap (λ (n : ℕ). flagOf n) q ∙ flag-back said) i)))
+      (λ i. UnderWay (Point.Run (runNow s w) (Mark ((ap (λ (n : ℕ). flagOf n) q ∙ flag-back said) i))))
 
   pub touched :
       (s₁ s₂ s₃ s₄ : List ℕ) (r : Reading) (steps : ℕ) →
@@ -204,7 +206,7 @@ module _ (s : List ℕ) (w : ℕ) (h : numbers ≤ length s) (b : w < workers) w
       let r₃ = row-next s s₂ s₃ w 6 next _ h b (omega arith) (two s s₁ s₂ w 5 steps h b e₁ e₂) e₃ in
       does-by s s₄ w _ _ b (row-next s s₃ s₄ w 7 place _ h b (omega arith) r₃ e₄) refl refl p
       (simp (e₄, e₃, e₂, e₁, p, q, v))
-      (λ i. UnderWay (Read (runWith (runNow s w) (next-is next 0 q i) (place-is place v i) (runNow s w .registers))))
+      (λ i. UnderWay (Point.Run (runWith (runNow s w) (next-is next 0 q i) (place-is place v i) (runNow s w .registers)) Read))
 
   pub loaded :
       (s₁ s₂ s₃ s₄ s₅ : List ℕ) (a x steps next place j : ℕ) →
@@ -220,7 +222,7 @@ module _ (s : List ℕ) (w : ℕ) (h : numbers ≤ length s) (b : w < workers) w
       (row-as s s₅ w _ _ r₅ (ap (λ (k : ℕ). set (set (set (set (set (rowOf s w) 0 5) 3 steps) 6 next) 7 place) k x) g ∙ register-set _ _ _ _ _ _ _ _ _ _ _ _ _ _ _ a x _ refl))
       refl refl p
       (simp (e₅, e₄, e₃, e₂, e₁, p, q, v, g))
-      (λ i. UnderWay (Read (runWith (runNow s w) (next-is next 0 q i) (place-is place v i) (withRegister (runNow s w .registers) a x))))
+      (λ i. UnderWay (Point.Run (runWith (runNow s w) (next-is next 0 q i) (place-is place v i) (withRegister (runNow s w .registers) a x)) Read))
 
   pub stored :
       (s₁ s₂ s₃ s₄ s₅ s₆ : List ℕ) (held : Reading) (new steps place : ℕ) →
@@ -235,7 +237,7 @@ module _ (s : List ℕ) (w : ℕ) (h : numbers ≤ length s) (b : w < workers) w
       let r₅ = row-next s s₄ s₅ w 7 place _ h b (omega arith) r₄ e₅ in
       does-by s s₆ w _ _ b (row-next s s₅ s₆ w 14 new _ h b (omega arith) r₅ e₆) refl refl p
       (simp (e₆, e₅, e₄, e₃, e₂, e₁, p, v))
-      (λ i. UnderWay (Swap (runWith (runNow s w) (runNow s w .next) (place-is place v i) (runNow s w .registers)) held new))
+      (λ i. UnderWay (Point.Run (runWith (runNow s w) (runNow s w .next) (place-is place v i) (runNow s w .registers)) (Swap held new)))
 
   -- the same, of moves that go on from another
   pub gone-on :
@@ -323,7 +325,7 @@ module _ (s : List ℕ) (w : ℕ) (h : numbers ≤ length s) (b : w < workers) w
       let r₄ = row-next s s₃ s₄ w 4 sheet _ h b (omega arith) r₃ e₄ in
       does-by s s₅ w _ _ b (row-next s s₄ s₅ w 5 won _ h b (omega arith) r₄ e₅) refl refl p
       (simp (e₅, e₄, e₃, e₂, e₁, p))
-      (λ i. UnderWay (Read (try.startOf (byte-back sheet u i) won)))
+      (λ i. UnderWay (Point.Run (try.startOf (byte-back sheet u i) won) Read))
 
   pub finished :
       (s₁ s₂ s₃ : List ℕ) (x : Answer) (steps new : ℕ) →

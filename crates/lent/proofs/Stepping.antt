@@ -14,8 +14,9 @@ use Rattle.parts.specs.Parts.{entry0, word0, lock0, readingOf, committedOf, hol
 use Rattle.parts.specs.Pick.{pick, onHolder}
 use Rattle.parts.specs.declared.Answer.{Answer}
 use Rattle.parts.specs.declared.Answer.the-variants.{NotTaken}
+use Rattle.parts.specs.declared.Fill.the-variants.{Empty, Filled}
 use Rattle.parts.specs.declared.Holder.{Holder}
-use Rattle.parts.specs.declared.Holder.the-variants.{Free, Sheet}
+use Rattle.parts.specs.declared.Holder.the-variants.{Free, By}
 use Rattle.parts.specs.declared.LockWord.{LockWord}
 use Rattle.parts.specs.declared.Asks.{Asks}
 use Rattle.parts.specs.declared.Asks.the-variants.{Halt, Go, Touch}
@@ -24,16 +25,17 @@ use Rattle.parts.specs.declared.Follows.{Follows}
 use Rattle.parts.specs.declared.Follows.the-variants as follows
 use Rattle.parts.specs.declared.Instr.{Instr}
 use Rattle.parts.specs.declared.Reading.{Reading}
-use Rattle.parts.specs.declared.Slot.the-variants.{Empty, Filled}
 use Rattle.parts.specs.declared.Registers.{Registers}
 use Rattle.parts.specs.declared.Word.{Word}
 use Rattle.steps.specs.Places.{spotOf, runSpot}
 use Rattle.steps.specs.Try as try
 use Rattle.steps.specs.Try.{toOf, startOf, ontoOf, loggedOf, lookOf, grabOf, lookAgainOf, readMarkOf, readOf, followOf, commitOf, swapOf, markOf, releaseOf, effectOf}
 use Rattle.steps.specs.Worker.{movedOf}
-use Rattle.steps.specs.declared.Point.the-variants.{Look, Grab, LookAgain, ReadMark, Read, Commit, Swap, Mark, Release}
+use Rattle.steps.specs.declared.Point.{Point}
+use Rattle.steps.specs.declared.Point.the-variants.{Look, Grab, LookAgain, ReadMark}
 use Rattle.steps.specs.declared.Run.{Run}
 use Rattle.steps.specs.declared.Spot.{Spot}
+use Rattle.steps.specs.declared.Stage.the-variants.{Read, Commit, Swap, Mark, Release}
 use Rattle.steps.specs.declared.State.{State}
 use Rattle.steps.specs.declared.State.the-variants.{Idle, UnderWay, Finished}
 use Rattle.steps.specs.declared.View.{View}
@@ -42,7 +44,7 @@ use Rattle.engine.specs.State.{sheet0, workerAt, lockAt, wordAt, withWorker}
 use Rattle.engine.specs.Step.{instrAt, entryAt, placesOf, viewAt, putAt, steppedOf}
 use Rattle.engine.specs.declared.Engine.{Engine}
 use Rattle.engine.specs.declared.Places.{Places}
-use Rattle.engine.specs.declared.Sheet as sheet
+use Rattle.engine.specs.declared.Sheet.{Sheet}
 use Rattle.cells.specs.Codes.{answerOf, stateOf}
 use Rattle.cells.specs.Layout.{unpack, putLock, putWord, putEntry}
 use Rattle.cells.specs.State.{withLock, withWord, withEntry}
@@ -106,10 +108,10 @@ with-word e at x q =
 
 -- the state after the first step of an instruction, and after its commit
 abbrev asked : Asks → Run → Reading → State
-asked q r x = onAsks q (λ said. UnderWay (Mark r said)) (λ g over. UnderWay (Read (ontoOf r over g))) (λ w. UnderWay (Commit r x))
+asked q r x = onAsks q (λ said. UnderWay (Point.Run r (Mark said))) (λ g over. UnderWay (Point.Run (ontoOf r over g) Read)) (λ w. UnderWay (Point.Run r (Commit x)))
 
 abbrev followed : Follows → Run → Reading → State
-followed q r x = onFollows q (λ g. UnderWay (Read (ontoOf r 0 g))) (λ new. UnderWay (Swap r x new))
+followed q r x = onFollows q (λ g. UnderWay (Point.Run (ontoOf r 0 g) Read)) (λ new. UnderWay (Point.Run r (Swap x new)))
 
 read-is : (v : View) (r : Run) → readOf v r ≡ toOf v (asked (asksOf (v .instr) (r .registers)) r (readingOf (v .word)))
 unfolding readOf
@@ -117,8 +119,8 @@ read-is v r = go (asksOf (v .instr) (r .registers))
   where
     go :
         (q : Asks) →
-        onAsks q (λ said. try.atOf v (Mark r said)) (λ g over. try.atOf v (Read (ontoOf r over g)))
-        (λ w. try.atOf v (Commit r (readingOf (v .word)))) ≡
+        onAsks q (λ said. try.atOf v (Point.Run r (Mark said))) (λ g over. try.atOf v (Point.Run (ontoOf r over g) Read))
+        (λ w. try.atOf v (Point.Run r (Commit (readingOf (v .word))))) ≡
         toOf v (asked q r (readingOf (v .word)))
     go (Halt said) = refl
     go (Go g n) = refl
@@ -131,7 +133,7 @@ follow-is v r x = go (followsOf (v .instr) (r .registers) (x .value))
   where
     go :
         (q : Follows) →
-        onFollows q (λ g. try.atOf v (Read (ontoOf r 0 g))) (λ new. try.atOf v (Swap r x new)) ≡ toOf v (followed q r x)
+        onFollows q (λ g. try.atOf v (Point.Run (ontoOf r 0 g) Read)) (λ new. try.atOf v (Point.Run r (Swap x new))) ≡ toOf v (followed q r x)
     go (follows.Done g) = refl
     go (follows.Swap n) = refl
 
@@ -185,11 +187,11 @@ abbrev moves : List ℕ → ℕ → State → Engine
 moves s w q = withWorker (unpack s) w (movedOf (workerAt (unpack s) w) q)
 
 pub read-stepped :
-    (s : List ℕ) (w : ℕ) → moves s w (readBy s w (instrNow s w) .state) ≡ steppedOf (unpack s) w (Read (runNow s w))
+    (s : List ℕ) (w : ℕ) → moves s w (readBy s w (instrNow s w) .state) ≡ steppedOf (unpack s) w (Point.Run (runNow s w) Read)
 unfolding effectOf placesOf spotOf instrNow viewAt
 read-stepped s w =
     let e = unpack s in
-    let at = placesOf e w (Read (runNow s w)) in
+    let at = placesOf e w (Point.Run (runNow s w) Read) in
     sym
     (ap (λ (v : View). putAt e at v) (read-is (viewAt e at) (runNow s w)) ∙
     alone e at (asked (asksOf (instrNow s w) (runNow s w .registers)) (runNow s w) (wordNow s (instrNow s w))) ∙
@@ -198,19 +200,19 @@ read-stepped s w =
 abbrev entryNow : List ℕ → ℕ → Entry
 entryNow s w = getD (unpack s .entry) (entryAt (runSpot (runNow s w))) entry0
 
-holds-empty : (e : Entry) (x : Reading) → e .slot ≡ Empty → holdsOf e x ≡ x
+holds-empty : (e : Entry) (x : Reading) → e .fill ≡ Empty → holdsOf e x ≡ x
 unfolding holdsOf
 holds-empty e x h = simp h
 
-holds-filled : (e : Entry) (x r : Reading) → e .slot ≡ Filled r → holdsOf e x ≡ r
+holds-filled : (e : Entry) (x r : Reading) → e .fill ≡ Filled r → holdsOf e x ≡ r
 unfolding holdsOf
 holds-filled e x r h = simp h
 
-committed-empty : (e : Entry) (x : Reading) → e .slot ≡ Empty → committedOf e x ≡ record { slot = Filled x }
+committed-empty : (e : Entry) (x : Reading) → e .fill ≡ Empty → committedOf e x ≡ record { fill = Filled x }
 unfolding committedOf
 committed-empty e x h = simp h
 
-committed-filled : (e : Entry) (x r : Reading) → e .slot ≡ Filled r → committedOf e x ≡ e
+committed-filled : (e : Entry) (x r : Reading) → e .fill ≡ Filled r → committedOf e x ≡ e
 unfolding committedOf
 committed-filled e x r h = simp h
 
@@ -232,12 +234,12 @@ pub commit-stepped :
     (s : List ℕ) (w : ℕ) (x : Reading) →
     withEntry (moves s w (followBy s w (instrNow s w) (holdsOf (entryNow s w) x) .state)) (entryAt (runSpot (runNow s w)))
     (committedOf (entryNow s w) x) ≡
-    steppedOf (unpack s) w (Commit (runNow s w) x)
+    steppedOf (unpack s) w (Point.Run (runNow s w) (Commit x))
 unfolding effectOf commitOf placesOf spotOf instrNow viewAt
 commit-stepped s w x =
     let e = unpack s in
     let r = runNow s w in
-    let at = placesOf e w (Commit r x) in
+    let at = placesOf e w (Point.Run r (Commit x)) in
     let held = holdsOf (entryNow s w) x in
     let v = try.withEntry (viewAt e at) (committedOf (entryNow s w) x) in
     sym
@@ -249,26 +251,26 @@ pub swap-stepped :
     (s : List ℕ) (w : ℕ) (x : Reading) (new : ℕ) →
     withWord (moves s w (passMove s w 0 .state)) (wordOf (instrNow s w) % mostWords)
     (parts.swapOf (wordAt (unpack s) (wordOf (instrNow s w) % mostWords)) x new) ≡
-    steppedOf (unpack s) w (Swap (runNow s w) x new)
+    steppedOf (unpack s) w (Point.Run (runNow s w) (Swap x new))
 unfolding effectOf swapOf placesOf spotOf instrNow viewAt passMove
 swap-stepped s w x new =
     let e = unpack s in
-    let at = placesOf e w (Swap (runNow s w) x new) in
-    sym (with-word e at (parts.swapOf (wordAt e (at .word)) x new) (UnderWay (Read (ontoOf (runNow s w) 0 (runNow s w .registers)))))
+    let at = placesOf e w (Point.Run (runNow s w) (Swap x new)) in
+    sym (with-word e at (parts.swapOf (wordAt e (at .word)) x new) (UnderWay (Point.Run (ontoOf (runNow s w) 0 (runNow s w .registers)) Read)))
 
 -- the point, by the tag
-pub at-read : (s : List ℕ) (w : ℕ) → w < workers → numberAt s w 0 ≡ 5 → workerAt (unpack s) w .state ≡ UnderWay (Read (runNow s w))
+pub at-read : (s : List ℕ) (w : ℕ) → w < workers → numberAt s w 0 ≡ 5 → workerAt (unpack s) w .state ≡ UnderWay (Point.Run (runNow s w) Read)
 unfolding stateOf numberAt runNow
 at-read s w b h = ap (λ (k : Worker). k .state) (worker-is s w b) ∙ simp h
 
 pub at-commit :
-    (s : List ℕ) (w : ℕ) → w < workers → numberAt s w 0 ≡ 6 → workerAt (unpack s) w .state ≡ UnderWay (Commit (runNow s w) (readNow s w))
+    (s : List ℕ) (w : ℕ) → w < workers → numberAt s w 0 ≡ 6 → workerAt (unpack s) w .state ≡ UnderWay (Point.Run (runNow s w) (Commit (readNow s w)))
 unfolding stateOf numberAt runNow readNow
 at-commit s w b h = ap (λ (k : Worker). k .state) (worker-is s w b) ∙ simp h
 
 pub at-swap :
     (s : List ℕ) (w : ℕ) → w < workers → numberAt s w 0 ≡ 7 →
-    workerAt (unpack s) w .state ≡ UnderWay (Swap (runNow s w) (readNow s w) (numberAt s w 14))
+    workerAt (unpack s) w .state ≡ UnderWay (Point.Run (runNow s w) (Swap (readNow s w) (numberAt s w 14)))
 unfolding stateOf numberAt runNow readNow
 at-swap s w b h = ap (λ (k : Worker). k .state) (worker-is s w b) ∙ simp h
 
@@ -277,7 +279,7 @@ pub read-done :
     (s t : List ℕ) (w : ℕ) (i : Instr) →
     i ≡ instrNow s w →
     Does s t w (readBy s w i) →
-    (t ≡ readNumbers s w) × (unpack t ≡ steppedOf (unpack s) w (Read (runNow s w)))
+    (t ≡ readNumbers s w) × (unpack t ≡ steppedOf (unpack s) w (Point.Run (runNow s w) Read))
 unfolding readNumbers
 read-done s t w i e d = (
   d .left ∙ ap (λ (y : Instr). readBy s w y .numbers) e,
@@ -286,44 +288,44 @@ read-done s t w i e d = (
 
 module _ (s : List ℕ) (w : ℕ) (i : Instr) (j : ℕ) (x : Entry)
     (ei : i ≡ instrNow s w) (place : j ≡ entryAt (runSpot (runNow s w))) (ex : x ≡ getD (unpack s .entry) j entry0) where
-  slot-is : x ≡ entryNow s w
-  slot-is = ex ∙ ap (λ (m : ℕ). getD (unpack s .entry) m entry0) place
+  fill-is : x ≡ entryNow s w
+  fill-is = ex ∙ ap (λ (m : ℕ). getD (unpack s .entry) m entry0) place
 
   pub commit-empty :
       (t u : List ℕ) (r : Reading) →
       r ≡ readNow s w →
-      x .slot ≡ Empty →
+      x .fill ≡ Empty →
       Does s t w (followBy s w i r) →
-      (u ≡ putEntry t j (record { slot = Filled r })) × (unpack u ≡ withEntry (unpack t) j (record { slot = Filled r })) →
-      (u ≡ commitNumbers s w) × (unpack u ≡ steppedOf (unpack s) w (Commit (runNow s w) (readNow s w)))
+      (u ≡ putEntry t j (record { fill = Filled r })) × (unpack u ≡ withEntry (unpack t) j (record { fill = Filled r })) →
+      (u ≡ commitNumbers s w) × (unpack u ≡ steppedOf (unpack s) w (Point.Run (runNow s w) (Commit (readNow s w))))
   unfolding commitNumbers
   commit-empty t u r er h d q =
-      let k : entryNow s w .slot ≡ Empty = ap (λ (y : Entry). y .slot) (sym slot-is) ∙ h in (
+      let k : entryNow s w .fill ≡ Empty = ap (λ (y : Entry). y .fill) (sym fill-is) ∙ h in (
         simp k (q .0 ∙ simp (d .left, place, er, ei)),
-        q .1 ∙ ap (λ (e : Engine). withEntry e j (record { slot = Filled r })) (d .state) ∙ simp (place, er, ei) (state k),
+        q .1 ∙ ap (λ (e : Engine). withEntry e j (record { fill = Filled r })) (d .state) ∙ simp (place, er, ei) (state k),
       )
     where
       state :
-          entryNow s w .slot ≡ Empty →
-          withEntry (moves s w (followBy s w (instrNow s w) (readNow s w) .state)) (entryAt (runSpot (runNow s w))) (record { slot = Filled (readNow s w) }) ≡
-          steppedOf (unpack s) w (Commit (runNow s w) (readNow s w))
+          entryNow s w .fill ≡ Empty →
+          withEntry (moves s w (followBy s w (instrNow s w) (readNow s w) .state)) (entryAt (runSpot (runNow s w))) (record { fill = Filled (readNow s w) }) ≡
+          steppedOf (unpack s) w (Point.Run (runNow s w) (Commit (readNow s w)))
       state k = rw (holds-empty (entryNow s w) (readNow s w) k, committed-empty (entryNow s w) (readNow s w) k) at (commit-stepped s w (readNow s w))
 
   pub commit-filled :
       (t : List ℕ) (r : Reading) →
-      x .slot ≡ Filled r →
+      x .fill ≡ Filled r →
       Does s t w (followBy s w i r) →
-      (t ≡ commitNumbers s w) × (unpack t ≡ steppedOf (unpack s) w (Commit (runNow s w) (readNow s w)))
+      (t ≡ commitNumbers s w) × (unpack t ≡ steppedOf (unpack s) w (Point.Run (runNow s w) (Commit (readNow s w))))
   unfolding commitNumbers
   commit-filled t r h d =
-      let k : entryNow s w .slot ≡ Filled r = ap (λ (y : Entry). y .slot) (sym slot-is) ∙ h in (
+      let k : entryNow s w .fill ≡ Filled r = ap (λ (y : Entry). y .fill) (sym fill-is) ∙ h in (
         simp k (d .left ∙ simp ei),
         d .state ∙ simp ei (state k),
       )
     where
       state :
-          entryNow s w .slot ≡ Filled r →
-          moves s w (followBy s w (instrNow s w) r .state) ≡ steppedOf (unpack s) w (Commit (runNow s w) (readNow s w))
+          entryNow s w .fill ≡ Filled r →
+          moves s w (followBy s w (instrNow s w) r .state) ≡ steppedOf (unpack s) w (Point.Run (runNow s w) (Commit (readNow s w)))
       state k =
           ap (λ (l : List Entry). withList (moves s w (followBy s w (instrNow s w) r .state)) l) (sym (set-getD (unpack s .entry) (entryAt (runSpot (runNow s w))) entry0)) ∙
           rw (holds-filled (entryNow s w) (readNow s w) r k, committed-filled (entryNow s w) (readNow s w) r k) at (commit-stepped s w (readNow s w))
@@ -333,18 +335,18 @@ module _ (s : List ℕ) (w : ℕ) (i : Instr) (j : ℕ) (x : Entry)
       (t u : List ℕ) (r held : Reading) →
       r ≡ readNow s w →
       held ≡ holdsOf x r →
-      x .slot ≡ Empty →
+      x .fill ≡ Empty →
       Does s t w (followBy s w i held) →
-      (u ≡ putEntry t j (record { slot = Filled r })) × (unpack u ≡ withEntry (unpack t) j (record { slot = Filled r })) →
-      (u ≡ commitNumbers s w) × (unpack u ≡ steppedOf (unpack s) w (Commit (runNow s w) (readNow s w)))
+      (u ≡ putEntry t j (record { fill = Filled r })) × (unpack u ≡ withEntry (unpack t) j (record { fill = Filled r })) →
+      (u ≡ commitNumbers s w) × (unpack u ≡ steppedOf (unpack s) w (Point.Run (runNow s w) (Commit (readNow s w))))
   committed-first t u r held er eh h d q = commit-empty t u r er h (rw (eh ∙ holds-empty x r h) at d) q
 
   pub committed-before :
       (t : List ℕ) (r held first : Reading) →
       held ≡ holdsOf x r →
-      x .slot ≡ Filled first →
+      x .fill ≡ Filled first →
       Does s t w (followBy s w i held) →
-      (t ≡ commitNumbers s w) × (unpack t ≡ steppedOf (unpack s) w (Commit (runNow s w) (readNow s w)))
+      (t ≡ commitNumbers s w) × (unpack t ≡ steppedOf (unpack s) w (Point.Run (runNow s w) (Commit (readNow s w))))
   committed-before t r held first eh h d = commit-filled t first h (rw (eh ∙ holds-filled x r first h) at d)
 
 pub swap-done :
@@ -353,7 +355,7 @@ pub swap-done :
     y ≡ parts.swapOf x r new →
     Does s t w (passMove s w 0) →
     (u ≡ putWord t j y) × (unpack u ≡ withWord (unpack t) j y) →
-    (u ≡ swapNumbers s w) × (unpack u ≡ steppedOf (unpack s) w (Swap (runNow s w) (readNow s w) (numberAt s w 14)))
+    (u ≡ swapNumbers s w) × (unpack u ≡ steppedOf (unpack s) w (Point.Run (runNow s w) (Swap (readNow s w) (numberAt s w 14))))
 unfolding swapNumbers
 swap-done s t u w i j x y r new ei ej ex er en ey d q =
     let place : j ≡ wordOf (instrNow s w) % mostWords = ej ∙ ap (λ (k : Instr). wordOf k % mostWords) ei in
@@ -405,11 +407,11 @@ look-is s w v = go (v .lock .holder) (eqb (v .lock .turn) lastTurn)
   where
     go :
         (h : Holder) (b : Bool) →
-        onHolder h (pick b (toOf v (Finished NotTaken)) (try.atOf v (Grab (v .lock .turn)))) (λ x. try.atOf v (Read (startOf x (v .lock .turn)))) ≡
+        onHolder h (pick b (toOf v (Finished NotTaken)) (try.atOf v (Grab (v .lock .turn)))) (λ x. try.atOf v (Point.Run (startOf x (v .lock .turn)) Read)) ≡
         toOf v (onHolder h (pick b (finishMove s w NotTaken) (grabMove s w (v .lock .turn))) (λ x. startMove s w x (v .lock .turn)) .state)
     go Free true = refl
     go Free false = refl
-    go (Sheet x) b = refl
+    go (By x) b = refl
 
 -- markBy with the own sheet o
 abbrev markOwn : List ℕ → ℕ → ℕ → Bool → LockWord → Move
@@ -426,22 +428,22 @@ mark-is s w v l = go (v .done) (l .holder)
   where
     one :
         (b : Bool) (x : ℕ) →
-        pick b (toOf v (UnderWay (Read (startOf (v .worker .own) (numberAt s w 5))))) (toOf v (UnderWay (Read (startOf x (l .turn))))) ≡
+        pick b (toOf v (UnderWay (Point.Run (startOf (v .worker .own) (numberAt s w 5)) Read))) (toOf v (UnderWay (Point.Run (startOf x (l .turn)) Read))) ≡
         toOf v (pick b (startMove s w (v .worker .own) (numberAt s w 5)) (startMove s w x (l .turn)) .state)
     one true x = refl
     one false x = refl
 
     go :
         (d : Bool) (h : Holder) →
-        pick d (toOf v (UnderWay (Read (startOf (v .worker .own) (numberAt s w 5)))))
+        pick d (toOf v (UnderWay (Point.Run (startOf (v .worker .own) (numberAt s w 5)) Read)))
         (onHolder h (toOf v (Finished NotTaken))
-        (λ x. pick (eqb x (v .worker .own)) (toOf v (UnderWay (Read (startOf (v .worker .own) (numberAt s w 5))))) (toOf v (UnderWay (Read (startOf x (l .turn))))))) ≡
+        (λ x. pick (eqb x (v .worker .own)) (toOf v (UnderWay (Point.Run (startOf (v .worker .own) (numberAt s w 5)) Read))) (toOf v (UnderWay (Point.Run (startOf x (l .turn)) Read))))) ≡
         toOf v (pick d (startMove s w (v .worker .own) (numberAt s w 5))
         (onHolder h (finishMove s w NotTaken)
         (λ x. pick (eqb x (v .worker .own)) (startMove s w (v .worker .own) (numberAt s w 5)) (startMove s w x (l .turn)))) .state)
     go true h = refl
     go false Free = refl
-    go false (Sheet x) = one (eqb x (v .worker .own)) x
+    go false (By x) = one (eqb x (v .worker .own)) x
 
 look-stepped : (s : List ℕ) (w : ℕ) → moves s w (lookBy s w (lockSeen s w) .state) ≡ steppedOf (unpack s) w Look
 unfolding effectOf placesOf viewAt
@@ -477,22 +479,22 @@ grab-stepped s w seen =
 
 mark-stepped :
     (s : List ℕ) (w : ℕ) →
-    withMark (moves s w (releaseMove s w .state)) (runNow s w .sheet % sheets) true ≡ steppedOf (unpack s) w (Mark (runNow s w) (saidNow s w))
+    withMark (moves s w (releaseMove s w .state)) (runNow s w .sheet % sheets) true ≡ steppedOf (unpack s) w (Point.Run (runNow s w) (Mark (saidNow s w)))
 unfolding effectOf markOf placesOf spotOf viewAt releaseMove
 mark-stepped s w =
     let e = unpack s in
-    let at = placesOf e w (Mark (runNow s w) (saidNow s w)) in
-    sym (with-mark e at (UnderWay (Release (runNow s w) (saidNow s w))))
+    let at = placesOf e w (Point.Run (runNow s w) (Mark (saidNow s w))) in
+    sym (with-mark e at (UnderWay (Point.Run (runNow s w) (Release (saidNow s w)))))
 
 release-stepped :
     (s : List ℕ) (w : ℕ) →
     withLock (moves s w (finishMove s w (answerNow s w) .state)) (lockNow s w)
     (parts.releaseOf (lockSeen s w) (runNow s w .won) (runNow s w .sheet)) ≡
-    steppedOf (unpack s) w (Release (runNow s w) (saidNow s w))
+    steppedOf (unpack s) w (Point.Run (runNow s w) (Release (saidNow s w)))
 unfolding effectOf releaseOf placesOf spotOf viewAt finishMove
 release-stepped s w =
     let e = unpack s in
-    let at = placesOf e w (Release (runNow s w) (saidNow s w)) in
+    let at = placesOf e w (Point.Run (runNow s w) (Release (saidNow s w))) in
     sym (with-lock e at (parts.releaseOf (lockSeen s w) (runNow s w .won) (runNow s w .sheet)) (Finished (answerNow s w)))
 
 won-is : (s : List ℕ) (w : ℕ) → numberAt s w 5 ≡ runNow s w .won
@@ -541,7 +543,7 @@ module _ (s : List ℕ) (w j : ℕ) (l : LockWord) (ej : j ≡ lockNow s w) (el 
       p ≡ runSpot (runNow s w) → won ≡ numberAt s w 5 → next ≡ parts.releaseOf l won (p .sheet) → a ≡ answerNow s w →
       Does s t w (finishMove s w a) →
       (u ≡ putLock t j next) × (unpack u ≡ withLock (unpack t) j next) →
-      (u ≡ releaseNumbers s w) × (unpack u ≡ steppedOf (unpack s) w (Release (runNow s w) (saidNow s w)))
+      (u ≡ releaseNumbers s w) × (unpack u ≡ steppedOf (unpack s) w (Point.Run (runNow s w) (Release (saidNow s w))))
   unfolding releaseNumbers
   release-done t u p won next a ep ew en ea d q =
       let x : next ≡ parts.releaseOf (lockSeen s w) (runNow s w .won) (runNow s w .sheet) = en ∙ (λ i. parts.releaseOf (lock-there i) ((ew ∙ won-is s w) i) (ep i .sheet)) in (
@@ -551,13 +553,13 @@ module _ (s : List ℕ) (w j : ℕ) (l : LockWord) (ej : j ≡ lockNow s w) (el 
       )
 
 pub read-mark-done :
-    (s t : List ℕ) (w own j : ℕ) (x : sheet.Sheet) (l : LockWord) →
+    (s t : List ℕ) (w own j : ℕ) (x : Sheet) (l : LockWord) →
     own ≡ ownNow s w → j ≡ own % sheets → x ≡ getD (unpack s .sheet) j sheet0 → l ≡ seenNow s w →
     Does s t w (markBy s w (x .done) l) →
     (t ≡ readMarkNumbers s w) × (unpack t ≡ steppedOf (unpack s) w (ReadMark (seenNow s w) (numberAt s w 5)))
 unfolding readMarkNumbers
 read-mark-done s t w own j x l eo ej ex el d =
-    let y : x .done ≡ doneNow s w = ap (λ (z : sheet.Sheet). z .done) (ex ∙ ap (λ (m : ℕ). getD (unpack s .sheet) m sheet0) (ej ∙ ap (λ (m : ℕ). m % sheets) eo)) in (
+    let y : x .done ≡ doneNow s w = ap (λ (z : Sheet). z .done) (ex ∙ ap (λ (m : ℕ). getD (unpack s .sheet) m sheet0) (ej ∙ ap (λ (m : ℕ). m % sheets) eo)) in (
       d .left ∙ (λ i. markBy s w (y i) (el i) .numbers),
       d .state ∙ (λ i. moves s w (markBy s w (y i) (el i) .state)) ∙ read-mark-stepped s w (seenNow s w),
     )
@@ -567,7 +569,7 @@ pub mark-done :
     p ≡ runSpot (runNow s w) → j ≡ p .sheet % sheets →
     Does s t w (releaseMove s w) →
     (u ≡ putMark t j true) × (unpack u ≡ withMark (unpack t) j true) →
-    (u ≡ markNumbers s w) × (unpack u ≡ steppedOf (unpack s) w (Mark (runNow s w) (saidNow s w)))
+    (u ≡ markNumbers s w) × (unpack u ≡ steppedOf (unpack s) w (Point.Run (runNow s w) (Mark (saidNow s w))))
 unfolding markNumbers
 mark-done s t u w j p ep ej d q =
     let y : j ≡ runNow s w .sheet % sheets = ej ∙ ap (λ (z : Spot). z .sheet % sheets) ep in
@@ -595,12 +597,12 @@ pub at-read-mark :
 unfolding stateOf numberAt
 at-read-mark s w b h = ap (λ (k : Worker). k .state) (worker-is s w b) ∙ simp h
 
-pub at-mark : (s : List ℕ) (w : ℕ) → w < workers → numberAt s w 0 ≡ 8 → workerAt (unpack s) w .state ≡ UnderWay (Mark (runNow s w) (saidNow s w))
+pub at-mark : (s : List ℕ) (w : ℕ) → w < workers → numberAt s w 0 ≡ 8 → workerAt (unpack s) w .state ≡ UnderWay (Point.Run (runNow s w) (Mark (saidNow s w)))
 unfolding stateOf numberAt runNow
 at-mark s w b h = ap (λ (k : Worker). k .state) (worker-is s w b) ∙ simp h
 
 pub at-release :
-    (s : List ℕ) (w : ℕ) → w < workers → numberAt s w 0 ≡ 9 → workerAt (unpack s) w .state ≡ UnderWay (Release (runNow s w) (saidNow s w))
+    (s : List ℕ) (w : ℕ) → w < workers → numberAt s w 0 ≡ 9 → workerAt (unpack s) w .state ≡ UnderWay (Point.Run (runNow s w) (Release (saidNow s w)))
 unfolding stateOf numberAt runNow
 at-release s w b h = ap (λ (k : Worker). k .state) (worker-is s w b) ∙ simp h
 
@@ -631,14 +633,14 @@ marked-free s t w done l e h d = simp (e, h) d
 
 pub marked-own :
     (s t : List ℕ) (w o won x : ℕ) (done : Bool) (l : LockWord) →
-    o ≡ ownNow s w → won ≡ numberAt s w 5 → done ≡ false → l .holder ≡ Sheet x → x ≡ o →
+    o ≡ ownNow s w → won ≡ numberAt s w 5 → done ≡ false → l .holder ≡ By x → x ≡ o →
     Does s t w (startMove s w o won) → Does s t w (markBy s w done l)
 unfolding markBy
 marked-own s t w o won x done l p q e h f d = simp (e, h, eq-eqb x (ownNow s w) (f ∙ p)) (rw (p, q) at d)
 
 pub marked-other :
     (s t : List ℕ) (w o x : ℕ) (done : Bool) (l : LockWord) →
-    o ≡ ownNow s w → done ≡ false → l .holder ≡ Sheet x → (x ≡ o → ⊥) →
+    o ≡ ownNow s w → done ≡ false → l .holder ≡ By x → (x ≡ o → ⊥) →
     Does s t w (startMove s w x (l .turn)) → Does s t w (markBy s w done l)
 unfolding markBy
 marked-other s t w o x done l p e h f d = simp (e, h, ne-eqb x (ownNow s w) (λ z. f (z ∙ sym p))) d

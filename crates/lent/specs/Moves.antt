@@ -8,19 +8,21 @@ use lib.ListN.{getD, set}
 use Rattle.parts.specs.Instr.{setOf, addOf, subOf, overOf, wordOf}
 use Rattle.parts.specs.Numbers.{mostLocks, mostWords, sheets, lastTurn}
 use Rattle.parts.specs.Parts.{next32, instr0, entry0, readingOf, registerOf, withRegister, swapOf, grabOf, releaseOf}
-use Rattle.parts.specs.Pick.{pick, onHolder, onSlot}
+use Rattle.parts.specs.Pick.{pick, onHolder, onFill}
 use Rattle.parts.specs.Told.{answerNumber}
 use Rattle.parts.specs.declared.Answer.{Answer}
 use Rattle.parts.specs.declared.Answer.the-variants.{NotTaken}
+use Rattle.parts.specs.declared.Fill.the-variants.{Filled}
 use Rattle.parts.specs.declared.Instr.{Instr}
 use Rattle.parts.specs.declared.LockWord.{LockWord}
 use Rattle.parts.specs.declared.Reading.{Reading}
-use Rattle.parts.specs.declared.Slot.the-variants.{Filled}
 use Rattle.steps.specs.Places.{runSpot}
 use Rattle.steps.specs.Try.{startOf, ontoOf, loggedOf, answerOf}
 use Rattle.steps.specs.Worker.{movedOf}
-use Rattle.steps.specs.declared.Point.the-variants.{Grab, LookAgain, ReadMark, Read, Commit, Swap, Mark, Release}
+use Rattle.steps.specs.declared.Point.{Point}
+use Rattle.steps.specs.declared.Point.the-variants.{Grab, LookAgain, ReadMark}
 use Rattle.steps.specs.declared.Run.{Run}
+use Rattle.steps.specs.declared.Stage.the-variants.{Read, Commit, Swap, Mark, Release}
 use Rattle.steps.specs.declared.State.{State}
 use Rattle.steps.specs.declared.State.the-variants.{UnderWay, Finished}
 use Rattle.engine.specs.State.{sheet0, workerAt, lockAt, wordAt, withWorker}
@@ -86,39 +88,39 @@ unfoldable pub passMove : List ℕ → ℕ → ℕ → Move
 passMove s w over =
     record {
       numbers = poked (tagged s w 5) w 6 (nextMore s w over);
-      state = UnderWay (Read (ontoOf (runNow s w) over (runNow s w .registers)));
+      state = UnderWay (Point.Run (ontoOf (runNow s w) over (runNow s w .registers)) Read);
     }
 
 unfoldable pub goMove : List ℕ → ℕ → ℕ → ℕ → Move
 goMove s w a x =
     record {
       numbers = poked (poked (tagged s w 5) w 6 (nextMore s w 0)) w (registerPlace a) x;
-      state = UnderWay (Read (ontoOf (runNow s w) 0 (withRegister (runNow s w .registers) a x)));
+      state = UnderWay (Point.Run (ontoOf (runNow s w) 0 (withRegister (runNow s w .registers) a x)) Read);
     }
 
 unfoldable pub haltMove : List ℕ → ℕ → Bool → Move
 haltMove s w said =
-    record { numbers = poked (tagged s w 8) w 14 (flagNumber said); state = UnderWay (Mark (runNow s w) said) }
+    record { numbers = poked (tagged s w 8) w 14 (flagNumber said); state = UnderWay (Point.Run (runNow s w) (Mark said)) }
 
 unfoldable pub touchMove : List ℕ → ℕ → Reading → Move
 touchMove s w r =
     record {
       numbers = holding s w 6 r;
-      state = UnderWay (Commit (runNow s w) r);
+      state = UnderWay (Point.Run (runNow s w) (Commit r));
     }
 
 unfoldable pub keptMove : List ℕ → ℕ → Move
 keptMove s w =
     record {
       numbers = poked (poked (tagged s w 5) w 6 (nextMore s w 0)) w 7 (placeMore s w);
-      state = UnderWay (Read (ontoOf (loggedOf (runNow s w)) 0 (runNow s w .registers)));
+      state = UnderWay (Point.Run (ontoOf (loggedOf (runNow s w)) 0 (runNow s w .registers)) Read);
     }
 
 unfoldable pub loadMove : List ℕ → ℕ → ℕ → ℕ → Move
 loadMove s w a x =
     record {
       numbers = poked (poked (poked (tagged s w 5) w 6 (nextMore s w 0)) w 7 (placeMore s w)) w (registerPlace a) x;
-      state = UnderWay (Read (ontoOf (loggedOf (runNow s w)) 0 (withRegister (runNow s w .registers) a x)));
+      state = UnderWay (Point.Run (ontoOf (loggedOf (runNow s w)) 0 (withRegister (runNow s w .registers) a x)) Read);
     }
 
 unfoldable pub storeMove : List ℕ → ℕ → Reading → ℕ → Move
@@ -126,7 +128,7 @@ storeMove s w held new =
     record {
       numbers =
           poked (poked (holding s w 7 held) w 7 (placeMore s w)) w 14 new;
-      state = UnderWay (Swap (loggedOf (runNow s w)) held new);
+      state = UnderWay (Point.Run (loggedOf (runNow s w)) (Swap held new));
     }
 
 -- the word that an instruction names, read
@@ -162,8 +164,8 @@ readNumbers s w = readBy s w (instrNow s w) .numbers
 
 unfoldable pub commitNumbers : List ℕ → ℕ → List ℕ
 commitNumbers s w =
-    onSlot (getD (unpack s .entry) (entryAt (runSpot (runNow s w))) entry0 .slot)
-    (putEntry (followBy s w (instrNow s w) (readNow s w) .numbers) (entryAt (runSpot (runNow s w))) (record { slot = Filled (readNow s w) }))
+    onFill (getD (unpack s .entry) (entryAt (runSpot (runNow s w))) entry0 .fill)
+    (putEntry (followBy s w (instrNow s w) (readNow s w) .numbers) (entryAt (runSpot (runNow s w))) (record { fill = Filled (readNow s w) }))
     (λ first. followBy s w (instrNow s w) first .numbers)
 
 unfoldable pub swapNumbers : List ℕ → ℕ → List ℕ
@@ -195,7 +197,7 @@ unfoldable pub startMove : List ℕ → ℕ → ℕ → ℕ → Move
 startMove s w sheet won =
     record {
       numbers = poked (poked (poked (poked (cleared s w) w 0 5) w 3 (stepsMore s w)) w 4 sheet) w 5 won;
-      state = UnderWay (Read (startOf sheet won));
+      state = UnderWay (Point.Run (startOf sheet won) Read);
     }
 
 unfoldable pub finishMove : List ℕ → ℕ → Answer → Move
@@ -215,7 +217,7 @@ seenMove s w l =
     }
 
 unfoldable pub releaseMove : List ℕ → ℕ → Move
-releaseMove s w = record { numbers = tagged s w 9; state = UnderWay (Release (runNow s w) (saidNow s w)) }
+releaseMove s w = record { numbers = tagged s w 9; state = UnderWay (Point.Run (runNow s w) (Release (saidNow s w))) }
 
 -- Look, by the lock word; read own mark, by the mark
 unfoldable pub lookBy : List ℕ → ℕ → LockWord → Move

@@ -252,7 +252,7 @@ fn holder_of(x: u32) -> Holder
         return Holder::Free;
     }
     let s = byte(x - 1);
-    Holder::Sheet(s)
+    Holder::By(s)
 }
 
 fn holder_number(h: Holder) -> u32
@@ -260,7 +260,7 @@ fn holder_number(h: Holder) -> u32
 {
     match h {
         Holder::Free => 0,
-        Holder::Sheet(s) => (s as u32) + 1,
+        Holder::By(s) => (s as u32) + 1,
     }
 }
 

@@ -5,7 +5,9 @@ ghost use lib.ListN.{length};
 ghost use Rattle.parts.specs.Instr.{overOf, wordOf};
 ghost use Rattle.parts.specs.Numbers.{workers, mostWords, sheets};
 ghost use Rattle.parts.specs.Parts.{registerOf};
-ghost use Rattle.steps.specs.declared.Point.the-variants.{Look, Grab, LookAgain, ReadMark, Read, Commit, Swap, Mark, Release};
+ghost use Rattle.steps.specs.declared.Point.{Point};
+ghost use Rattle.steps.specs.declared.Point.the-variants.{Look, Grab, LookAgain, ReadMark};
+ghost use Rattle.steps.specs.declared.Stage.the-variants.{Read, Commit, Swap, Mark, Release};
 ghost use Rattle.engine.specs.Step.{steppedOf};
 ghost use Rattle.cells.specs.Layout.{numbers, unpack};
 ghost use Rattle.lent.specs.Moves.{numberAt, runNow, readNow, instrNow, wordNow, Does, readBy, followBy, readNumbers, commitNumbers, swapNumbers, seenNow, saidNow, lookBy, markBy, lookNumbers, grabNumbers, againNumbers, readMarkNumbers, releaseNumbers};
@@ -14,13 +16,13 @@ use crate::moves;
 use engine::Sheet;
 use parts::Answer;
 use parts::Entry;
+use parts::Fill;
 use parts::Holder;
 use parts::Instr;
 use parts::LAST_TURN;
 use parts::LockWord;
 use parts::Reading;
 use parts::SHEETS;
-use parts::Slot;
 use parts::WORDS;
 
 // Where the word stands that an instruction names.
@@ -139,7 +141,7 @@ fn follow(s: &mut [u32], w: usize, i: Instr, held: Reading)
 pub fn read(s: &mut [u32], w: usize)
     requires { ⌜ (numbers ≤ length (now s)) × (w < workers) ⌝ }
     ensures { λ _. ⌜ now (s .exit) ≡ readNumbers (now (s .entry)) w ⌝ }
-    ensures { λ _. ⌜ unpack (now (s .exit)) ≡ steppedOf (unpack (now (s .entry))) w (Read (runNow (now (s .entry)) w)) ⌝ }
+    ensures { λ _. ⌜ unpack (now (s .exit)) ≡ steppedOf (unpack (now (s .entry))) w (Point.Run (runNow (now (s .entry)) w) Read) ⌝ }
 {
     let i = moves::instr(s, w);
     first(s, w, i);
@@ -148,7 +150,7 @@ pub fn read(s: &mut [u32], w: usize)
 pub fn commit(s: &mut [u32], w: usize)
     requires { ⌜ (numbers ≤ length (now s)) × (w < workers) ⌝ }
     ensures { λ _. ⌜ now (s .exit) ≡ commitNumbers (now (s .entry)) w ⌝ }
-    ensures { λ _. ⌜ unpack (now (s .exit)) ≡ steppedOf (unpack (now (s .entry))) w (Commit (runNow (now (s .entry)) w) (readNow (now (s .entry)) w)) ⌝ }
+    ensures { λ _. ⌜ unpack (now (s .exit)) ≡ steppedOf (unpack (now (s .entry))) w (Point.Run (runNow (now (s .entry)) w) (Commit (readNow (now (s .entry)) w))) ⌝ }
 {
     let i = moves::instr(s, w);
     let j = moves::entry_place(s, w);
@@ -156,22 +158,22 @@ pub fn commit(s: &mut [u32], w: usize)
     let read = moves::read_now(s, w);
     let held = e.holds(read);
     follow(s, w, i, held);
-    let slot = e.slot;
-    match slot {
-        Slot::Empty => {
+    let fill = e.fill;
+    match fill {
+        Fill::Empty => {
             let filled = Entry {
-                slot: Slot::Filled(read),
+                fill: Fill::Filled(read),
             };
             cells::put_entry(s, j, filled);
         }
-        Slot::Filled(_) => {}
+        Fill::Filled(_) => {}
     }
 }
 
 pub fn swap(s: &mut [u32], w: usize)
     requires { ⌜ (numbers ≤ length (now s)) × (w < workers) ⌝ }
     ensures { λ _. ⌜ now (s .exit) ≡ swapNumbers (now (s .entry)) w ⌝ }
-    ensures { λ _. ⌜ unpack (now (s .exit)) ≡ steppedOf (unpack (now (s .entry))) w (Swap (runNow (now (s .entry)) w) (readNow (now (s .entry)) w) (numberAt (now (s .entry)) w 14)) ⌝ }
+    ensures { λ _. ⌜ unpack (now (s .exit)) ≡ steppedOf (unpack (now (s .entry))) w (Point.Run (runNow (now (s .entry)) w) (Swap (readNow (now (s .entry)) w) (numberAt (now (s .entry)) w 14))) ⌝ }
 {
     let i = moves::instr(s, w);
     let j = word_at(i);
@@ -210,7 +212,7 @@ fn looked(s: &mut [u32], w: usize, l: LockWord)
 {
     let h = l.holder;
     match h {
-        Holder::Sheet(x) => moves::start(s, w, x, l.turn),
+        Holder::By(x) => moves::start(s, w, x, l.turn),
         Holder::Free => {
             if l.turn == LAST_TURN {
                 moves::finish(s, w, Answer::NotTaken);
@@ -235,7 +237,7 @@ fn marked(s: &mut [u32], w: usize, done: bool, l: LockWord)
     let h = l.holder;
     match h {
         Holder::Free => moves::finish(s, w, Answer::NotTaken),
-        Holder::Sheet(x) => {
+        Holder::By(x) => {
             if x == o {
                 moves::start(s, w, o, won);
                 return;
@@ -295,7 +297,7 @@ pub fn read_mark(s: &mut [u32], w: usize)
 pub fn mark(s: &mut [u32], w: usize)
     requires { ⌜ (numbers ≤ length (now s)) × (w < workers) ⌝ }
     ensures { λ _. ⌜ now (s .exit) ≡ markNumbers (now (s .entry)) w ⌝ }
-    ensures { λ _. ⌜ unpack (now (s .exit)) ≡ steppedOf (unpack (now (s .entry))) w (Mark (runNow (now (s .entry)) w) (saidNow (now (s .entry)) w)) ⌝ }
+    ensures { λ _. ⌜ unpack (now (s .exit)) ≡ steppedOf (unpack (now (s .entry))) w (Point.Run (runNow (now (s .entry)) w) (Mark (saidNow (now (s .entry)) w))) ⌝ }
 {
     let t = moves::spot(s, w);
     let j = sheet_at(t.sheet);
@@ -306,7 +308,7 @@ pub fn mark(s: &mut [u32], w: usize)
 pub fn release(s: &mut [u32], w: usize)
     requires { ⌜ (numbers ≤ length (now s)) × (w < workers) ⌝ }
     ensures { λ _. ⌜ now (s .exit) ≡ releaseNumbers (now (s .entry)) w ⌝ }
-    ensures { λ _. ⌜ unpack (now (s .exit)) ≡ steppedOf (unpack (now (s .entry))) w (Release (runNow (now (s .entry)) w) (saidNow (now (s .entry)) w)) ⌝ }
+    ensures { λ _. ⌜ unpack (now (s .exit)) ≡ steppedOf (unpack (now (s .entry))) w (Point.Run (runNow (now (s .entry)) w) (Release (saidNow (now (s .entry)) w))) ⌝ }
 {
     let j = moves::lock_at(s, w);
     let l = cells::get_lock(s, j);

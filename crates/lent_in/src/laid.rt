@@ -11,11 +11,11 @@ ghost use Rattle.records.specs.Job.{instrsOf};
 ghost use Rattle.cells.specs.Layout.{numbers, wordPart, lockPart, instrPart, entryPart};
 ghost use Rattle.lent_in.specs.Laid.{Laid, layWords, layLocks, layProgram, layLog};
 use parts::Entry;
+use parts::Fill;
 use parts::Holder;
 use parts::INSTRUCTIONS;
 use parts::Instr;
 use parts::LockWord;
-use parts::Slot;
 use parts::Word;
 
 // The words of these guards and these values' bytes.
@@ -93,7 +93,7 @@ pub fn no_log(s: &mut [u32], base: usize)
 {
     let mut j: usize = 0;
     while j < INSTRUCTIONS {
-        let x = Entry { slot: Slot::Empty };
+        let x = Entry { fill: Fill::Empty };
         cells::put_entry(s, base + j, x);
         j += 1;
     }

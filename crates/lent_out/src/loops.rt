@@ -79,7 +79,7 @@ pub fn held_told(s: &[u32], n: usize) -> Told
                 j += 1;
                 continue;
             }
-            Holder::Sheet(_) => return Told::Refused(Refusal::Held(j)),
+            Holder::By(_) => return Told::Refused(Refusal::Held(j)),
         }
     }
     Told::Accepted

@@ -5,14 +5,14 @@ use mathlib.Core.Path.{_≡_, _∙_, sym}
 use mathlib.Core.Bool.{Bool, true, false, not}
 use lib.Dec.{T, eqb, leb, ltb}
 use borrow.Author.Tests.{eq-eqb, ne-eqb, le-leb, lt-leb, lt-ltb, le-ltb}
-use Rattle.parts.specs.Pick.{pick, _or_, onHolder, onSlot}
+use Rattle.parts.specs.Pick.{pick, _or_, onHolder, onFill}
 use Rattle.parts.specs.Told.{_then_}
+use Rattle.parts.specs.declared.Fill.{Fill}
+use Rattle.parts.specs.declared.Fill.the-variants.{Empty, Filled}
 use Rattle.parts.specs.declared.Holder.{Holder}
-use Rattle.parts.specs.declared.Holder.the-variants.{Free, Sheet}
+use Rattle.parts.specs.declared.Holder.the-variants.{Free, By}
 use Rattle.parts.specs.declared.Reading.{Reading}
 use Rattle.parts.specs.declared.Refusal.{Refusal}
-use Rattle.parts.specs.declared.Slot.{Slot}
-use Rattle.parts.specs.declared.Slot.the-variants.{Empty, Filled}
 use Rattle.parts.specs.declared.Told.{Told}
 use Rattle.parts.specs.declared.Told.the-variants.{Accepted, Refused}
 
@@ -74,14 +74,14 @@ pick-not false x y z e = e
 pub holder-free : {A : Type 0} (h : Holder) (x a : A) (f : ℕ → A) → h ≡ Free → x ≡ a → x ≡ onHolder h a f
 holder-free h x a f q e = simp q e
 
-pub holder-sheet : {A : Type 0} (h : Holder) (s : ℕ) (x a : A) (f : ℕ → A) → h ≡ Sheet s → x ≡ f s → x ≡ onHolder h a f
-holder-sheet h s x a f q e = simp q e
+pub holder-by : {A : Type 0} (h : Holder) (s : ℕ) (x a : A) (f : ℕ → A) → h ≡ By s → x ≡ f s → x ≡ onHolder h a f
+holder-by h s x a f q e = simp q e
 
-pub slot-empty : {A : Type 0} (h : Slot) (x a : A) (f : Reading → A) → h ≡ Empty → x ≡ a → x ≡ onSlot h a f
-slot-empty h x a f q e = simp q e
+pub fill-empty : {A : Type 0} (h : Fill) (x a : A) (f : Reading → A) → h ≡ Empty → x ≡ a → x ≡ onFill h a f
+fill-empty h x a f q e = simp q e
 
-pub slot-filled : {A : Type 0} (h : Slot) (r : Reading) (x a : A) (f : Reading → A) → h ≡ Filled r → x ≡ f r → x ≡ onSlot h a f
-slot-filled h r x a f q e = simp q e
+pub fill-filled : {A : Type 0} (h : Fill) (r : Reading) (x a : A) (f : Reading → A) → h ≡ Filled r → x ≡ f r → x ≡ onFill h a f
+fill-filled h r x a f q e = simp q e
 
 -- a row that accepts is passed; one that refuses is told
 pub then-pass : (t u x : Told) → Accepted ≡ t → x ≡ u → x ≡ (t then u)
@@ -124,7 +124,7 @@ sub32 r x y h k e = omega arith
 
 pub ruleset tests = (pick-eq, pick-key, pick-ne, pick-le, pick-nle, pick-lt, pick-nlt, pick-true, pick-false, pick-eq-by, pick-ne-by, pick-eq-both, pick-ne-both, pick-or, pick-not)
 
-pub ruleset cases = (holder-free, holder-sheet, slot-empty, slot-filled)
+pub ruleset cases = (holder-free, holder-by, fill-empty, fill-filled)
 
 pub ruleset order = (then-pass, then-stop)
 

@@ -3,14 +3,14 @@ use Prim.Native.Nat.{ℕ, _+_, _%_, _^_}
 use mathlib.Core.Bool.{Bool, false}
 use lib.Dec.{eqb}
 use Rattle.parts.specs.Numbers.{lastTurn}
-use Rattle.parts.specs.Pick.{pick, onHolder, onSlot}
+use Rattle.parts.specs.Pick.{pick, onHolder, onFill}
 use Rattle.parts.specs.declared.Entry.{Entry}
-use Rattle.parts.specs.declared.Holder.the-variants.{Free, Sheet}
+use Rattle.parts.specs.declared.Fill.the-variants.{Empty, Filled}
+use Rattle.parts.specs.declared.Holder.the-variants.{Free, By}
 use Rattle.parts.specs.declared.Instr.{Instr}
 use Rattle.parts.specs.declared.LockWord.{LockWord}
 use Rattle.parts.specs.declared.Reading.{Reading}
 use Rattle.parts.specs.declared.Registers.{Registers}
-use Rattle.parts.specs.declared.Slot.the-variants.{Empty, Filled}
 use Rattle.parts.specs.declared.Word.{Word}
 
 -- the values at the start, and past an array's end
@@ -24,7 +24,7 @@ abbrev pub word0 : Word
 word0 = record { value = 0; count = 0; guard = 0 }
 
 abbrev pub entry0 : Entry
-entry0 = record { slot = Empty }
+entry0 = record { fill = Empty }
 
 abbrev pub lock0 : LockWord
 lock0 = record { turn = 0; holder = Free }
@@ -58,11 +58,11 @@ swapOf w e new =
 
 -- "Commit: if the log entry at the place is empty it takes the value and count read"
 unfoldable pub committedOf : Entry → Reading → Entry
-committedOf e read = onSlot (e .slot) (record { slot = Filled read }) (λ first. e)
+committedOf e read = onFill (e .fill) (record { fill = Filled read }) (λ first. e)
 
 -- "either way the worker goes on with what the entry holds"
 unfoldable pub holdsOf : Entry → Reading → Reading
-holdsOf e read = onSlot (e .slot) read (λ first. first)
+holdsOf e read = onFill (e .fill) read (λ first. first)
 
 -- "the lock is free with turn 67,108,864"
 unfoldable pub wornOf : LockWord → Bool
@@ -73,7 +73,7 @@ wornOf l = onHolder (l .holder) (eqb (l .turn) lastTurn) (λ s. false)
 unfoldable pub grabOf : LockWord → ℕ → ℕ → LockWord
 grabOf l seen sheet =
     onHolder (l .holder)
-    (pick (eqb (l .turn) seen) (record { turn = next32 (l .turn); holder = Sheet sheet }) l) (λ s. l)
+    (pick (eqb (l .turn) seen) (record { turn = next32 (l .turn); holder = By sheet }) l) (λ s. l)
 
 -- "Release. If the lock word is held by that sheet at the turn under which it won, it becomes free with the same turn."
 unfoldable pub releaseOf : LockWord → ℕ → ℕ → LockWord

@@ -2,11 +2,11 @@
 use Prim.Native.Nat.{ℕ}
 use mathlib.Core.Bool.{Bool, true, false}
 use lib.Dec.{eqb}
+use Rattle.parts.specs.declared.Fill.{Fill}
+use Rattle.parts.specs.declared.Fill.the-variants.{Empty, Filled}
 use Rattle.parts.specs.declared.Holder.{Holder}
-use Rattle.parts.specs.declared.Holder.the-variants.{Free, Sheet}
+use Rattle.parts.specs.declared.Holder.the-variants.{Free, By}
 use Rattle.parts.specs.declared.Reading.{Reading}
-use Rattle.parts.specs.declared.Slot.{Slot}
-use Rattle.parts.specs.declared.Slot.the-variants.{Empty, Filled}
 
 infixr 25 _or_
 infixr 30 _isnt_
@@ -26,9 +26,9 @@ a isnt b = pick (eqb a b) false true
 -- of a lock word's holder: where it is free; where a sheet holds it
 abbrev pub onHolder : {A : Type 0} → Holder → A → (ℕ → A) → A
 onHolder Free a f = a
-onHolder (Sheet s) a f = f s
+onHolder (By s) a f = f s
 
--- of a log entry's slot: where it is empty; where it is filled
-abbrev pub onSlot : {A : Type 0} → Slot → A → (Reading → A) → A
-onSlot Empty a f = a
-onSlot (Filled r) a f = f r
+-- of a log entry's fill: where it is empty; where it is filled
+abbrev pub onFill : {A : Type 0} → Fill → A → (Reading → A) → A
+onFill Empty a f = a
+onFill (Filled r) a f = f r

@@ -97,18 +97,18 @@ pub struct Word {
     pub guard: u8,
 }
 
-pub enum Slot {
+pub enum Fill {
     Empty,
     Filled(Reading),
 }
 
 pub struct Entry {
-    pub slot: Slot,
+    pub fill: Fill,
 }
 
 pub enum Holder {
     Free,
-    Sheet(u8),
+    By(u8),
 }
 
 pub struct LockWord {
@@ -321,12 +321,12 @@ impl Entry {
     pub fn commit(self, read: Reading) -> Entry
         ensures { λ r. ⌜ r ≡ committedOf self read ⌝ }
     {
-        let s = self.slot;
+        let s = self.fill;
         match s {
-            Slot::Empty => Entry {
-                slot: Slot::Filled(read),
+            Fill::Empty => Entry {
+                fill: Fill::Filled(read),
             },
-            Slot::Filled(_) => self,
+            Fill::Filled(_) => self,
         }
     }
 
@@ -334,10 +334,10 @@ impl Entry {
     pub fn holds(self, read: Reading) -> Reading
         ensures { λ r. ⌜ r ≡ holdsOf self read ⌝ }
     {
-        let s = self.slot;
+        let s = self.fill;
         match s {
-            Slot::Empty => read,
-            Slot::Filled(first) => first,
+            Fill::Empty => read,
+            Fill::Filled(first) => first,
         }
     }
 }
@@ -350,7 +350,7 @@ impl LockWord {
         let h = self.holder;
         match h {
             Holder::Free => self.turn == LAST_TURN,
-            Holder::Sheet(_) => false,
+            Holder::By(_) => false,
         }
     }
 
@@ -365,12 +365,12 @@ impl LockWord {
                     let next = std::num::wrapping_add_u32(self.turn, 1);
                     return LockWord {
                         turn: next,
-                        holder: Holder::Sheet(sheet),
+                        holder: Holder::By(sheet),
                     };
                 }
                 self
             }
-            Holder::Sheet(_) => self,
+            Holder::By(_) => self,
         }
     }
 
@@ -381,7 +381,7 @@ impl LockWord {
         let h = self.holder;
         match h {
             Holder::Free => self,
-            Holder::Sheet(s) => {
+            Holder::By(s) => {
                 if s == sheet {
                     if self.turn == won {
                         return LockWord {

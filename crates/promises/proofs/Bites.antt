@@ -8,7 +8,7 @@ use Rattle.parts.specs.Numbers.{sheets}
 use Rattle.parts.specs.Parts.{next32}
 use Rattle.steps.specs.Places.{spotOf}
 use Rattle.steps.specs.declared.Point.{Point}
-use Rattle.steps.specs.declared.Point.the-variants.{Look, Grab, LookAgain, ReadMark, Read, Commit, Swap, Mark, Release}
+use Rattle.steps.specs.declared.Point.the-variants.{Look, Grab, LookAgain, ReadMark}
 use Rattle.steps.specs.declared.State.the-variants.{UnderWay}
 use Rattle.engine.specs.State.{sheet0, lockCount, wordCount, wordAt, workerAt, programLength}
 use Rattle.engine.specs.Step.{spotAt, placesOf}
@@ -40,11 +40,7 @@ spot-sheet Look own h g = h
 spot-sheet (Grab seen) own h g = h
 spot-sheet (LookAgain won) own h g = h
 spot-sheet (ReadMark seen won) own h g = h
-spot-sheet (Read r) own h g = g .sheet
-spot-sheet (Commit r read) own h g = g .0 .sheet
-spot-sheet (Swap r entry new) own h g = g .0 .sheet
-spot-sheet (Mark r said) own h g = g .sheet
-spot-sheet (Release r said) own h g = g .sheet
+spot-sheet (Point.Run r at) own h g = g .0 .sheet
 
 grab-turn : (p : Point) (seen : ℕ) → GoodPoint p → p ≡ Grab seen → next32 seen ≡ seen + 1
 grab-turn p seen g q = let h : GoodPoint (Grab seen) = subst GoodPoint q g in omega arith

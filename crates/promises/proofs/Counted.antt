@@ -6,12 +6,13 @@ use lib.Dec.{eqb}
 use Rattle.parts.specs.Pick.{pick, onHolder}
 use Rattle.parts.specs.declared.Answer.the-variants.{NotTaken}
 use Rattle.parts.specs.declared.Holder.{Holder}
-use Rattle.parts.specs.declared.Holder.the-variants.{Free, Sheet}
+use Rattle.parts.specs.declared.Holder.the-variants.{Free, By}
 use Rattle.parts.specs.declared.LockWord.{LockWord}
 use Rattle.steps.specs.Try.{startOf}
 use Rattle.steps.specs.Worker.{worker0}
 use Rattle.steps.specs.declared.Point.{Point}
-use Rattle.steps.specs.declared.Point.the-variants.{Look, Grab, LookAgain, ReadMark, Read, Commit, Swap, Mark, Release}
+use Rattle.steps.specs.declared.Point.the-variants.{Look, Grab, LookAgain, ReadMark}
+use Rattle.steps.specs.declared.Stage.the-variants.{Read, Commit, Swap, Mark, Release}
 use Rattle.steps.specs.declared.State.{State}
 use Rattle.steps.specs.declared.State.the-variants.{UnderWay, Finished}
 use Rattle.steps.specs.declared.Worker.{Worker}
@@ -35,17 +36,17 @@ busy-look last l = go (l .holder) (eqb (l .turn) last)
   where
     go :
         (h : Holder) (b : Bool) →
-        Busy (onHolder h (pick b (Finished NotTaken) (UnderWay (Grab (l .turn)))) (λ s. UnderWay (Read (startOf s (l .turn)))))
+        Busy (onHolder h (pick b (Finished NotTaken) (UnderWay (Grab (l .turn)))) (λ s. UnderWay (Point.Run (startOf s (l .turn)) Read)))
     go Free true = tt
     go Free false = tt
-    go (Sheet s) b = tt
+    go (By s) b = tt
 
 busy-mark : (done : Bool) (seen : LockWord) (won own : ℕ) → Busy (markTo done seen won own)
 unfolding markTo
 busy-mark true seen won own = tt
 busy-mark false seen won own = go (seen .holder)
   where
-    same : (s : ℕ) (b : Bool) → Busy (pick b (UnderWay (Read (startOf own won))) (UnderWay (Read (startOf s (seen .turn)))))
+    same : (s : ℕ) (b : Bool) → Busy (pick b (UnderWay (Point.Run (startOf own won) Read)) (UnderWay (Point.Run (startOf s (seen .turn)) Read)))
     same s true = tt
     same s false = tt
 
@@ -53,9 +54,9 @@ busy-mark false seen won own = go (seen .holder)
         (h : Holder) →
         Busy
         (onHolder h (Finished NotTaken)
-        (λ s. pick (eqb s own) (UnderWay (Read (startOf own won))) (UnderWay (Read (startOf s (seen .turn))))))
+        (λ s. pick (eqb s own) (UnderWay (Point.Run (startOf own won) Read)) (UnderWay (Point.Run (startOf s (seen .turn)) Read))))
     go Free = tt
-    go (Sheet s) = same s (eqb s own)
+    go (By s) = same s (eqb s own)
 
 pub stepped-worker : (K : Rules) (E : Scene) (i : ℕ) (k : Worker) (p : Point) → SteppedBy K E i k p
 unfolding stepAt
@@ -64,11 +65,11 @@ stepped-worker K E i k (Grab seen) = record { to = _; worker = refl; busy = tt }
 stepped-worker K E i k (LookAgain won) = record { to = _; worker = refl; busy = tt }
 stepped-worker K E i k (ReadMark seen won) =
     record { to = _; worker = refl; busy = busy-mark (E .done (k .own)) seen won (k .own) }
-stepped-worker K E i k (Read r) = record { to = _; worker = refl; busy = tt }
-stepped-worker K E i k (Commit r u) = record { to = _; worker = refl; busy = tt }
-stepped-worker K E i k (Swap r e new) = record { to = _; worker = refl; busy = tt }
-stepped-worker K E i k (Mark r said) = record { to = _; worker = refl; busy = tt }
-stepped-worker K E i k (Release r said) = record { to = _; worker = refl; busy = tt }
+stepped-worker K E i k (Point.Run r Read) = record { to = _; worker = refl; busy = tt }
+stepped-worker K E i k (Point.Run r (Commit u)) = record { to = _; worker = refl; busy = tt }
+stepped-worker K E i k (Point.Run r (Swap e new)) = record { to = _; worker = refl; busy = tt }
+stepped-worker K E i k (Point.Run r (Mark said)) = record { to = _; worker = refl; busy = tt }
+stepped-worker K E i k (Point.Run r (Release said)) = record { to = _; worker = refl; busy = tt }
 
 -- one worker changes, and its number of steps with it
 count-put :

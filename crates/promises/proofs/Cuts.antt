@@ -11,7 +11,7 @@ use Rattle.parts.specs.Numbers.{workers}
 use Rattle.parts.specs.Parts as parts
 use Rattle.parts.specs.Parts.{committedOf, holdsOf, registerOf, withRegister, wornOf}
 use Rattle.parts.specs.declared.Answer.the-variants.{RanYes, RanNo, NotTaken}
-use Rattle.parts.specs.declared.Holder.the-variants.{Free, Sheet}
+use Rattle.parts.specs.declared.Holder.the-variants.{Free, By}
 use Rattle.parts.specs.declared.Told.the-variants.{Accepted}
 use Rattle.records.specs.Bytes.{u32sOf, AllBytes}
 use Rattle.records.specs.Job.{badlyFormed, codeTold, instrTold, instrsOf, jobTold, straysAt}
@@ -57,7 +57,7 @@ rescued =
 
 pub record Met : Type 0 where
   -- held, helping, ends, uncut: A holds lock 0, worker 1 is idle, B is valid there, worker 0 is under way
-  pub held : lockAt (sofar cutOff .state) 0 .holder ≡ Sheet 0
+  pub held : lockAt (sofar cutOff .state) 0 .holder ≡ By 0
   pub listed : times 0 (sofar cutOff .won 0) ≡ 1
   pub seat : 1 < workers
   pub idle : workerAt (sofar cutOff .state) 1 .state ≡ Idle

@@ -10,13 +10,12 @@ use Rattle.parts.specs.Numbers.{workers, instructions, trySteps}
 use Rattle.parts.specs.Pick.{pick}
 use Rattle.parts.specs.declared.Answer.{Answer}
 use Rattle.parts.specs.declared.Answer.the-variants.{RanYes, RanNo, NotTaken}
-use Rattle.parts.specs.declared.Holder.the-variants.{Free, Sheet}
+use Rattle.parts.specs.declared.Holder.the-variants.{Free, By}
 use Rattle.parts.specs.declared.Told.{Told}
 use Rattle.parts.specs.declared.Told.the-variants.{Accepted, Refused}
 use Rattle.alone.specs.Jobs.{Try, times}
 use Rattle.steps.specs.Worker as steps
 use Rattle.steps.specs.declared.Point.{Point}
-use Rattle.steps.specs.declared.Point.the-variants.{Look, Grab, LookAgain, ReadMark, Read, Commit, Swap, Mark, Release}
 use Rattle.steps.specs.declared.State.{State}
 use Rattle.steps.specs.declared.State.the-variants.{UnderWay, Finished}
 use Rattle.steps.specs.declared.Worker.{Worker}
@@ -26,10 +25,10 @@ use Rattle.engine.specs.declared.CollectTold.{CollectTold}
 use Rattle.engine.specs.declared.Collected.{Collected}
 use Rattle.engine.specs.declared.Engine.{Engine}
 use Rattle.helping.specs.Machine.{Scene, movedOf}
-use Rattle.helping.specs.Ok.{Busy, LockOk, StateOk, viewOf, Named, AnswerOk, Listed, Says, todoAt}
+use Rattle.helping.specs.Ok.{Busy, LockOk, StateOk, viewOf, Named, AnswerOk, Listed, Says}
 use Rattle.promises.specs.History.{Past, steps, Sofar, sofar, start, stateAfter, Hold, given, HeldWords, RanOnce, GoesOn, Demand3}
 use Rattle.helping.proofs.Ranges.{ranged}
-use Rattle.helping.proofs.Help.{held-part}
+use Rattle.helping.proofs.Help.{held-part, to-do}
 use Rattle.helping.proofs.Over.{over-told}
 use Rattle.helping.proofs.Put.{put-same}
 use Rattle.promises.proofs.Helped.{step-accepted, step-scene, completed}
@@ -77,18 +76,6 @@ listed-once : (t : Try) (earlier : List Try) → 1 ≤ times (t .number) (t ∷ 
 unfolding times
 listed-once t earlier = rw (eq-eqb (t .number) (t .number) refl) (omega arith)
 
--- a try under way has a step left
-some-left : (most : ℕ) (p : Point) → 1 ≤ todoAt most p
-some-left most Look = omega arith
-some-left most (Grab seen) = omega arith
-some-left most (LookAgain won) = omega arith
-some-left most (ReadMark seen won) = omega arith
-some-left most (Read r) = omega arith
-some-left most (Commit r u) = omega arith
-some-left most (Swap r e new) = omega arith
-some-left most (Mark r said) = omega arith
-some-left most (Release r said) = omega arith
-
 -- at the end of a history
 module _ (e₀ : Engine) (u₀ : Under (rulesOf e₀) e₀) (x : Sofar) (s : Standing (rulesOf e₀) x) where
   free-words : (l : ℕ) → lockAt (x .state) l .holder ≡ Free → Hold e₀ (x .state) l (given e₀ (x .won l))
@@ -98,7 +85,7 @@ module _ (e₀ : Engine) (u₀ : Under (rulesOf e₀) e₀) (x : Sofar) (s : Sta
       (s .next .ok .lock l) in
       o .values q (guarded (rulesOf e₀) e₀ u₀ l q g)
 
-  held-words : (l h : ℕ) → lockAt (x .state) l .holder ≡ Sheet h → HeldWords e₀ x l h
+  held-words : (l h : ℕ) → lockAt (x .state) l .holder ≡ By h → HeldWords e₀ x l h
   held-words l h e =
       let part = held-part (rulesOf e₀) (sceneOf (x .state)) (taleOf x) (s .next .st) (s .next .ok) l h e in
       record {
@@ -178,7 +165,7 @@ module _ (e₀ : Engine) (u₀ : Under (rulesOf e₀) e₀) (x : Sofar) (s : Sta
       (w : ℕ) (p : Point) → w < workers → workerAt (x .state) w .state ≡ UnderWay p →
       (x .steps w < trySteps instructions) × GoesOn (x .state) w
   ends w p h e =
-      (omega (arith, s .counted w (rw e tt), state-ok w (UnderWay p) e .0, some-left instructions p), goes-on w p h e)
+      (omega (arith, s .counted w (rw e tt), state-ok w (UnderWay p) e .0, to-do instructions p), goes-on w p h e)
 
 pub demand-3 : (p : Past) → Demand3 p
 demand-3 p =

@@ -9,30 +9,31 @@ use Rattle.parts.specs.Instr.{asksOf, followsOf, onAsks, onFollows, setOf, addO
 use Rattle.parts.specs.Numbers.{sheets, lastTurn}
 use Rattle.parts.specs.Parts as parts
 use Rattle.parts.specs.Parts.{registerOf, withRegister, committedOf, holdsOf, readingOf, next32}
-use Rattle.parts.specs.Pick.{pick, onHolder, onSlot}
+use Rattle.parts.specs.Pick.{pick, onHolder, onFill}
 use Rattle.parts.specs.declared.Answer.the-variants.{NotTaken}
 use Rattle.parts.specs.declared.Asks.{Asks}
 use Rattle.parts.specs.declared.Asks.the-variants.{Halt, Go, Touch}
 use Rattle.parts.specs.declared.Entry.{Entry}
+use Rattle.parts.specs.declared.Fill.{Fill}
+use Rattle.parts.specs.declared.Fill.the-variants.{Empty, Filled}
 use Rattle.parts.specs.declared.Follows.{Follows}
 use Rattle.parts.specs.declared.Follows.the-variants as follows
 use Rattle.parts.specs.declared.Holder.{Holder}
-use Rattle.parts.specs.declared.Holder.the-variants.{Free, Sheet}
+use Rattle.parts.specs.declared.Holder.the-variants.{Free, By}
 use Rattle.parts.specs.declared.Instr.{Instr}
 use Rattle.parts.specs.declared.LockWord.{LockWord}
 use Rattle.parts.specs.declared.Reading.{Reading}
 use Rattle.parts.specs.declared.Registers.{Registers}
-use Rattle.parts.specs.declared.Slot.{Slot}
-use Rattle.parts.specs.declared.Slot.the-variants.{Empty, Filled}
 use Rattle.parts.specs.declared.Word.{Word}
 use Rattle.steps.specs.Try.{withLock, withWord, withEntry, withDone, toOf, atOf, startOf, ontoOf, loggedOf, lookOf, grabOf, lookAgainOf, readMarkOf, readOf, followOf, commitOf, swapOf, markOf, answerOf, releaseOf, effectOf}
 use Rattle.steps.specs.declared.Point.{Point}
-use Rattle.steps.specs.declared.Point.the-variants.{Look, Grab, LookAgain, ReadMark, Read, Commit, Swap, Mark, Release}
+use Rattle.steps.specs.declared.Point.the-variants.{Look, Grab, LookAgain, ReadMark}
 use Rattle.steps.specs.declared.Run.{Run}
+use Rattle.steps.specs.declared.Stage.the-variants.{Read, Commit, Swap, Mark, Release}
 use Rattle.steps.specs.declared.State.{State}
 use Rattle.steps.specs.declared.State.the-variants.{UnderWay, Finished}
 use Rattle.steps.specs.declared.View.{View}
-use Rattle.promises.specs.Good.{Fits, GoodHolder, GoodLock, GoodWord, GoodReading, GoodRegisters, GoodInstr, GoodSlot, GoodEntry, GoodRun, GoodPoint, GoodState, GoodWorker}
+use Rattle.promises.specs.Good.{Fits, GoodHolder, GoodLock, GoodWord, GoodReading, GoodRegisters, GoodInstr, GoodFill, GoodEntry, GoodRun, GoodPoint, GoodState, GoodWorker}
 use Rattle.promises.proofs.Frame.{pick-all}
 
 pub record GoodView (locks : ℕ) (v : View) : Type 0 where
@@ -42,18 +43,18 @@ pub record GoodView (locks : ℕ) (v : View) : Type 0 where
   pub entry : GoodEntry (v .entry)
   pub instr : GoodInstr (v .instr)
 
--- by the case of a holder, of a slot, of what an instruction asks and of what follows
+-- by the case of a holder, of a fill, of what an instruction asks and of what follows
 holder-all :
     {A : Type 0} (P : A → Type 0) (h : Holder) (a : A) (f : ℕ → A) →
     GoodHolder h → P a → ((s : ℕ) → s < sheets → P (f s)) → P (onHolder h a f)
 holder-all P Free a f g p q = p
-holder-all P (Sheet s) a f g p q = q s g
+holder-all P (By s) a f g p q = q s g
 
-slot-all :
-    {A : Type 0} (P : A → Type 0) (h : Slot) (a : A) (f : Reading → A) →
-    GoodSlot h → P a → ((r : Reading) → GoodReading r → P (f r)) → P (onSlot h a f)
-slot-all P Empty a f g p q = p
-slot-all P (Filled r) a f g p q = q r g
+fill-all :
+    {A : Type 0} (P : A → Type 0) (h : Fill) (a : A) (f : Reading → A) →
+    GoodFill h → P a → ((r : Reading) → GoodReading r → P (f r)) → P (onFill h a f)
+fill-all P Empty a f g p q = p
+fill-all P (Filled r) a f g p q = q r g
 
 GoodAsks : Asks → Type 0
 GoodAsks (Halt said) = Unit {0}
@@ -128,7 +129,7 @@ grab-good l seen s g h k =
     holder-all GoodLock (l .holder) _ (λ t. l) (g .holder) (won (eqb (l .turn) seen) refl) (λ t q. g)
   where
     won :
-        (b : Bool) → eqb (l .turn) seen ≡ b → GoodLock (pick b (record { turn = next32 (l .turn); holder = Sheet s }) l)
+        (b : Bool) → eqb (l .turn) seen ≡ b → GoodLock (pick b (record { turn = next32 (l .turn); holder = By s }) l)
     won true e = let q = eqb-true (l .turn) seen e in record { turn = omega arith; holder = k }
     won false e = g
 
@@ -151,11 +152,11 @@ swap-good L w r new g h =
 
 committed-good : (e : Entry) (r : Reading) → GoodEntry e → GoodReading r → GoodEntry (committedOf e r)
 unfolding committedOf
-committed-good e r g h = slot-all GoodEntry (e .slot) (record { slot = Filled r }) (λ first. e) g h (λ first q. g)
+committed-good e r g h = fill-all GoodEntry (e .fill) (record { fill = Filled r }) (λ first. e) g h (λ first q. g)
 
 holds-good : (e : Entry) (r : Reading) → GoodEntry e → GoodReading r → GoodReading (holdsOf e r)
 unfolding holdsOf
-holds-good e r g h = slot-all GoodReading (e .slot) r (λ first. first) g h (λ first q. q)
+holds-good e r g h = fill-all GoodReading (e .fill) r (λ first. first) g h (λ first q. q)
 
 -- runs
 start-good : (s won : ℕ) → s < sheets → won ≤ lastTurn → GoodRun (startOf s won)
@@ -198,9 +199,9 @@ module _ (L : ℕ) (some : 1 ≤ L) where
   look-good : (v : View) → GoodView L v → GoodView L (lookOf v)
   unfolding lookOf
   look-good v g =
-      holder-all (GoodView L) (v .lock .holder) _ (λ s. atOf v (Read (startOf s (v .lock .turn)))) (g .lock .holder)
+      holder-all (GoodView L) (v .lock .holder) _ (λ s. atOf v (Point.Run (startOf s (v .lock .turn)) Read)) (g .lock .holder)
       (free (eqb (v .lock .turn) lastTurn) refl)
-      (λ s h. at-good v (Read (startOf s (v .lock .turn))) g (start-good s (v .lock .turn) h (g .lock .turn)))
+      (λ s h. at-good v (Point.Run (startOf s (v .lock .turn)) Read) g (start-good s (v .lock .turn) h (g .lock .turn), tt))
     where
       free :
           (b : Bool) → eqb (v .lock .turn) lastTurn ≡ b →
@@ -219,19 +220,19 @@ module _ (L : ℕ) (some : 1 ≤ L) where
       (holder-all (GoodView L) (seen .holder) _ _ (h .holder) (to-good v (Finished NotTaken) g tt)
       (λ s q.
       pick-all (GoodView L) (eqb s (v .worker .own)) _ _ own
-      (at-good v (Read (startOf s (seen .turn))) g (start-good s (seen .turn) q (h .turn)))))
+      (at-good v (Point.Run (startOf s (seen .turn)) Read) g (start-good s (seen .turn) q (h .turn), tt))))
     where
-      own : GoodView L (atOf v (Read (startOf (v .worker .own) won)))
-      own = at-good v (Read (startOf (v .worker .own) won)) g (start-good (v .worker .own) won (g .worker .own) k)
+      own : GoodView L (atOf v (Point.Run (startOf (v .worker .own) won) Read))
+      own = at-good v (Point.Run (startOf (v .worker .own) won) Read) g (start-good (v .worker .own) won (g .worker .own) k, tt)
 
   read-good : (v : View) (r : Run) → GoodView L v → GoodRun r → GoodView L (readOf v r)
   unfolding readOf
   read-good v r g h =
       asks-all (GoodView L) (asksOf (v .instr) (r .registers)) _ _ _
       (asks-good (v .instr) (r .registers) (g .instr) (h .registers))
-      (λ said. at-good v (Mark r said) g h)
-      (λ rs n q. at-good v (Read (ontoOf r n rs)) g (onto-good r n rs h q))
-      (λ w. at-good v (Commit r (readingOf (v .word))) g (h, record { value = g .word .value; count = g .word .count }))
+      (λ said. at-good v (Point.Run r (Mark said)) g (h, tt))
+      (λ rs n q. at-good v (Point.Run (ontoOf r n rs) Read) g (onto-good r n rs h q, tt))
+      (λ w. at-good v (Point.Run r (Commit (readingOf (v .word)))) g (h, record { value = g .word .value; count = g .word .count }))
 
   follow-good :
       (v : View) (r : Run) (held : Reading) → GoodView L v → GoodRun r → GoodReading held → GoodView L (followOf v r held)
@@ -239,8 +240,8 @@ module _ (L : ℕ) (some : 1 ≤ L) where
   follow-good v r held g h k =
       follows-all (GoodView L) (followsOf (v .instr) (r .registers) (held .value)) _ _
       (follows-good (v .instr) (r .registers) (held .value) (h .registers) (k .value))
-      (λ rs q. at-good v (Read (ontoOf r 0 rs)) g (onto-good r 0 rs h q))
-      (λ new q. at-good v (Swap r held new) g (h, k, q))
+      (λ rs q. at-good v (Point.Run (ontoOf r 0 rs) Read) g (onto-good r 0 rs h q, tt))
+      (λ new q. at-good v (Point.Run r (Swap held new)) g (h, (k, q)))
 
   pub effect-good : (p : Point) (v : View) → GoodPoint p → GoodView L v → GoodView L (effectOf p v)
   unfolding effectOf grabOf lookAgainOf commitOf swapOf markOf releaseOf
@@ -250,8 +251,8 @@ module _ (L : ℕ) (some : 1 ≤ L) where
       (with-lock v _ g (grab-good (v .lock) seen (v .worker .own) (g .lock) h (g .worker .own))) (omega arith)
   effect-good (LookAgain won) v h g = at-good v (ReadMark (v .lock) won) g (g .lock, h)
   effect-good (ReadMark seen won) v h g = mark-good v seen won g (h .0) (h .1)
-  effect-good (Read r) v h g = read-good v r g h
-  effect-good (Commit r read) v h g =
+  effect-good (Point.Run r Read) v h g = read-good v r g (h .0)
+  effect-good (Point.Run r (Commit read)) v h g =
       follow-good (withEntry v (committedOf (v .entry) read)) (loggedOf r) (holdsOf (v .entry) read)
       (record {
         worker = g .worker;
@@ -261,19 +262,19 @@ module _ (L : ℕ) (some : 1 ≤ L) where
         instr = g .instr;
       })
       (logged-good r (h .0)) (holds-good (v .entry) read (g .entry) (h .1))
-  effect-good (Swap r entry new) v h g =
-      at-good (withWord v (parts.swapOf (v .word) entry new)) (Read (ontoOf r 0 (r .registers)))
+  effect-good (Point.Run r (Swap entry new)) v h g =
+      at-good (withWord v (parts.swapOf (v .word) entry new)) (Point.Run (ontoOf r 0 (r .registers)) Read)
       (record {
         worker = g .worker;
         lock = g .lock;
-        word = swap-good L (v .word) entry new (g .word) (h .2);
+        word = swap-good L (v .word) entry new (g .word) (h .1 .1);
         entry = g .entry;
         instr = g .instr;
       })
-      (onto-good r 0 (r .registers) (h .0) (h .0 .registers))
-  effect-good (Mark r said) v h g =
-      at-good (withDone v) (Release r said)
+      (onto-good r 0 (r .registers) (h .0) (h .0 .registers), tt)
+  effect-good (Point.Run r (Mark said)) v h g =
+      at-good (withDone v) (Point.Run r (Release said))
       (record { worker = g .worker; lock = g .lock; word = g .word; entry = g .entry; instr = g .instr }) h
-  effect-good (Release r said) v h g =
+  effect-good (Point.Run r (Release said)) v h g =
       to-good (withLock v (parts.releaseOf (v .lock) (r .won) (r .sheet))) (Finished (answerOf r (v .worker .own) said))
       (with-lock v _ g (release-good (v .lock) (r .won) (r .sheet) (g .lock))) tt

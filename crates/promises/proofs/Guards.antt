@@ -9,14 +9,15 @@ use Rattle.parts.specs.Parts as parts
 use Rattle.parts.specs.Parts.{word0, holdsOf}
 use Rattle.parts.specs.Pick.{onHolder}
 use Rattle.parts.specs.declared.Holder.{Holder}
-use Rattle.parts.specs.declared.Holder.the-variants.{Free, Sheet}
+use Rattle.parts.specs.declared.Holder.the-variants.{Free, By}
 use Rattle.parts.specs.declared.Told.{Told}
 use Rattle.parts.specs.declared.Told.the-variants.{Refused}
 use Rattle.parts.specs.declared.Word.{Word}
 use Rattle.alone.proofs.Bounds.{asks-all, follows-all}
 use Rattle.steps.specs.Try.{lookOf, grabOf, lookAgainOf, readMarkOf, readOf, followOf, commitOf, swapOf, markOf, releaseOf, effectOf}
 use Rattle.steps.specs.declared.Point.{Point}
-use Rattle.steps.specs.declared.Point.the-variants.{Look, Grab, LookAgain, ReadMark, Read, Commit, Swap, Mark, Release}
+use Rattle.steps.specs.declared.Point.the-variants.{Look, Grab, LookAgain, ReadMark}
+use Rattle.steps.specs.declared.Stage.the-variants.{Read, Commit, Swap, Mark, Release}
 use Rattle.steps.specs.declared.View.{View}
 use Rattle.engine.specs.State.{workerAt, wordAt}
 use Rattle.engine.specs.Step.{placesOf, viewAt, putAt, steppedOf}
@@ -32,7 +33,7 @@ use Rattle.promises.proofs.Laid.{set-same}
 holder-each :
     {A : Type 0} (P : A → Type 0) (h : Holder) (a : A) (f : ℕ → A) → P a → ((s : ℕ) → P (f s)) → P (onHolder h a f)
 holder-each P Free a f p q = p
-holder-each P (Sheet s) a f p q = q s
+holder-each P (By s) a f p q = q s
 
 module _ (v : View) where
   abbrev Same : View → Type 0
@@ -46,14 +47,14 @@ module _ (v : View) where
   effect-guard (ReadMark seen won) =
       pick-all Same (v .done) _ _ refl
       (holder-each Same (seen .holder) _ _ refl (λ s. pick-all Same (eqb s (v .worker .own)) _ _ refl refl))
-  effect-guard (Read r) = asks-all Same (asksOf (v .instr) (r .registers)) (λ said. refl) (λ rs n. refl) (λ w. refl)
-  effect-guard (Commit r read) =
+  effect-guard (Point.Run r Read) = asks-all Same (asksOf (v .instr) (r .registers)) (λ said. refl) (λ rs n. refl) (λ w. refl)
+  effect-guard (Point.Run r (Commit read)) =
       follows-all Same (followsOf (v .instr) (r .registers) (holdsOf (v .entry) read .value)) (λ rs. refl) (λ new. refl)
-  effect-guard (Swap r entry new) =
+  effect-guard (Point.Run r (Swap entry new)) =
       pick-all (λ (w : Word). w .guard ≡ v .word .guard) (eqb (v .word .value) (entry .value)) _ _
       (pick-all (λ (w : Word). w .guard ≡ v .word .guard) (eqb (v .word .count) (entry .count)) _ _ refl refl) refl
-  effect-guard (Mark r said) = refl
-  effect-guard (Release r said) = refl
+  effect-guard (Point.Run r (Mark said)) = refl
+  effect-guard (Point.Run r (Release said)) = refl
 
 -- e′ has the words of e, and their guards
 pub record Guarding (e e′ : Engine) : Type 0 where

@@ -6,7 +6,7 @@ use mathlib.Core.List.{List, _∷_}
 use borrow.Author.Tests.{lt-leb, eq-eqb}
 use Rattle.parts.specs.Numbers.{workers, sheets, instructions, helpSteps}
 use Rattle.parts.specs.Parts.{wornOf}
-use Rattle.parts.specs.declared.Holder.the-variants.{Sheet}
+use Rattle.parts.specs.declared.Holder.the-variants.{By}
 use Rattle.parts.specs.declared.Instr.{Instr}
 use Rattle.parts.specs.declared.Refusal.the-variants.{NotCollected, WorkerIdle}
 use Rattle.parts.specs.declared.Told.the-variants.{Accepted, Refused}
@@ -94,7 +94,7 @@ alone-is K x s w h (suc n) =
 -- every idle worker may begin on a held lock, with every valid job
 may-begin :
     (x : Sofar) → Good (x .state) → (w l s : ℕ) (rec : List ℕ) → l < lockCount (x .state) →
-    lockAt (x .state) l .holder ≡ Sheet s → w < workers → workerAt (x .state) w .state ≡ Idle →
+    lockAt (x .state) l .holder ≡ By s → w < workers → workerAt (x .state) w .state ≡ Idle →
     jobTold rec l (guardsOf (wordsOf (x .state))) ≡ Accepted → Begins (x .state) w l rec
 unfolding steps.beginTold wornOf
 may-begin x g w l s rec b h k i j =
@@ -133,7 +133,7 @@ looking : (E : Scene) (w l : ℕ) (code : List Instr) (s : ℕ) → begunOf E w 
 looking E w l code s = rw (eq-eqb w w refl)
 
 pub completed :
-    (e₀ : Engine) → Under (rulesOf e₀) e₀ → (x : Sofar) → Standing (rulesOf e₀) x → (w l h : ℕ) (rec : List ℕ) → l < lockCount (x .state) → lockAt (x .state) l .holder ≡ Sheet h → w < workers →
+    (e₀ : Engine) → Under (rulesOf e₀) e₀ → (x : Sofar) → Standing (rulesOf e₀) x → (w l h : ℕ) (rec : List ℕ) → l < lockCount (x .state) → lockAt (x .state) l .holder ≡ By h → w < workers →
     workerAt (x .state) w .state ≡ Idle → AllBytes rec → jobTold rec l (guardsOf (wordsOf (x .state))) ≡ Accepted →
     history.Completed e₀ x w l rec
 completed e₀ u₀ x s w l h rec below held seat idle bytes job =

@@ -5,7 +5,7 @@ use mathlib.Core.Logic.{inl, inr}
 use mathlib.Core.List.{List, [], _∷_, _++_}
 use Rattle.parts.specs.declared.LockWord.{LockWord}
 use Rattle.steps.specs.declared.Point.{Point}
-use Rattle.steps.specs.declared.Point.the-variants.{Look, Grab, LookAgain, ReadMark, Read, Commit, Swap, Mark, Release}
+use Rattle.steps.specs.declared.Point.the-variants.{Look, Grab, LookAgain, ReadMark}
 use Rattle.steps.specs.declared.State.the-variants.{UnderWay}
 use Rattle.alone.specs.Jobs.{Try}
 use Rattle.engine.specs.Calls.{setupOf}
@@ -45,11 +45,7 @@ step-on K E T i (Grab seen) n e h =
     (subst (Named K T (viewOf E (n .st)) (T .tries i) (E .worker i)) e (n .ok .named i) .lock) h
 step-on K E T i (LookAgain won) n e h = h
 step-on K E T i (ReadMark seen won) n e h = h
-step-on K E T i (Read r) n e h = h
-step-on K E T i (Commit r u) n e h = h
-step-on K E T i (Swap r u new) n e h = h
-step-on K E T i (Mark r said) n e h = h
-step-on K E T i (Release r said) n e h = h
+step-on K E T i (Point.Run r at) n e h = h
 
 on-then :
     (K : Rules) (E E′ : Scene) (T T′ : Tale) (S S′ : ℕ → ℕ) → Next K E T → AllOn T → Simulated K E T S E′ T′ S′ → AllOn T′

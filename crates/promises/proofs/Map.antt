@@ -7,7 +7,7 @@ use Rattle.arrays.specs.Fresh.{valuesOf}
 use Rattle.parts.specs.Numbers.{instructions, lastTurn}
 use Rattle.parts.specs.Parts.{entry0, readingOf}
 use Rattle.parts.specs.Pick.{pick}
-use Rattle.parts.specs.declared.Slot.the-variants.{Empty}
+use Rattle.parts.specs.declared.Fill.the-variants.{Empty}
 use Rattle.engine.specs.State.{sheet0, wordCount, workerAt, lockAt, wordAt, wordsOf, baseOf, programOf}
 use Rattle.engine.specs.declared.Engine.{Engine}
 use Rattle.helping.specs.Machine.{Rules, Scene, Tale}
@@ -31,7 +31,7 @@ sceneOf e =
       lock = λ l. lockAt e l;
       program = λ s. programOf e s;
       done = λ s. getD (e .sheet) s sheet0 .done;
-      log = λ s p. pick (ltb p instructions) (getD (e .entry) (baseOf s + p) entry0 .slot) Empty;
+      log = λ s p. pick (ltb p instructions) (getD (e .entry) (baseOf s + p) entry0 .fill) Empty;
       worker = λ w. workerAt e w;
     }
 

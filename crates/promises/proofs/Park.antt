@@ -16,7 +16,7 @@ use Rattle.parts.specs.Parts.{word0, lock0}
 use Rattle.parts.specs.Told.{refuseIf}
 use Rattle.parts.specs.Pick.{onHolder}
 use Rattle.parts.specs.declared.Holder.{Holder}
-use Rattle.parts.specs.declared.Holder.the-variants.{Free, Sheet}
+use Rattle.parts.specs.declared.Holder.the-variants.{Free, By}
 use Rattle.parts.specs.declared.LockWord.{LockWord}
 use Rattle.parts.specs.declared.Refusal.the-variants.{Range, Buffer, Held}
 use Rattle.parts.specs.declared.Told.{Told}
@@ -89,7 +89,7 @@ free-all (l ∷ ls) at h = go (l .holder) refl h (λ k. free-all ls (at + 1) k)
         let same : freeAt (l .turn) ≡ l = ap (λ (x : Holder). record { turn = l .turn; holder = x }) (sym q) in
         let rest : map freeAt (turnsOf ls) ≡ ls = f k in
         cc
-    go (Sheet s) q k f = let z : _≡_ {A = ℕ} 0 1 = cc in absurd (omega arith)
+    go (By s) q k f = let z : _≡_ {A = ℕ} 0 1 = cc in absurd (omega arith)
 
 -- the words and the locks of the state that setup makes, by the fields of its record
 fresh-words :

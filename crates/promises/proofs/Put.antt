@@ -13,9 +13,9 @@ use Rattle.parts.specs.Numbers.{sheets, instructions, entries}
 use Rattle.parts.specs.Parts.{word0, lock0, entry0, readingOf}
 use Rattle.parts.specs.Pick.{pick}
 use Rattle.parts.specs.declared.Entry.{Entry}
+use Rattle.parts.specs.declared.Fill.{Fill}
+use Rattle.parts.specs.declared.Fill.the-variants.{Empty}
 use Rattle.parts.specs.declared.LockWord.{LockWord}
-use Rattle.parts.specs.declared.Slot.{Slot}
-use Rattle.parts.specs.declared.Slot.the-variants.{Empty}
 use Rattle.parts.specs.declared.Word.{Word}
 use Rattle.steps.specs.Worker.{worker0}
 use Rattle.steps.specs.declared.View.{View}
@@ -49,19 +49,19 @@ set-put f l i x d h =
     (λ k n. ap f (getD-set-other l i k x d n))
 
 -- the logs that an array of entries holds
-abbrev pub logsOf : List Entry → ℕ → ℕ → Slot
-logsOf l s p = pick (ltb p instructions) (getD l (baseOf s + p) entry0 .slot) Empty
+abbrev pub logsOf : List Entry → ℕ → ℕ → Fill
+logsOf l s p = pick (ltb p instructions) (getD l (baseOf s + p) entry0 .fill) Empty
 
 log-is :
-    (l : List Entry) (s p : ℕ) (z : Slot) → (p < instructions → getD l (baseOf s + p) entry0 .slot ≡ z) →
+    (l : List Entry) (s p : ℕ) (z : Fill) → (p < instructions → getD l (baseOf s + p) entry0 .fill ≡ z) →
     (instructions ≤ p → Empty ≡ z) → logsOf l s p ≡ z
 log-is l s p z h k = go (ltb p instructions) refl
   where
-    go : (b : Bool) → ltb p instructions ≡ b → pick b (getD l (baseOf s + p) entry0 .slot) Empty ≡ z
+    go : (b : Bool) → ltb p instructions ≡ b → pick b (getD l (baseOf s + p) entry0 .fill) Empty ≡ z
     go true e = h (ltb-true p instructions e)
     go false e = k (ltb-false p instructions e)
 
-pub log-here : (l : List Entry) (s p : ℕ) → p < instructions → logsOf l s p ≡ getD l (baseOf s + p) entry0 .slot
+pub log-here : (l : List Entry) (s p : ℕ) → p < instructions → logsOf l s p ≡ getD l (baseOf s + p) entry0 .fill
 log-here l s p h = log-is l s p _ (λ k. refl) (λ k. absurd (omega arith))
 
 -- where two arrays have the same entry
@@ -69,17 +69,17 @@ log-same :
     (l m : List Entry) (s p : ℕ) → (p < instructions → getD m (baseOf s + p) entry0 ≡ getD l (baseOf s + p) entry0) →
     logsOf m s p ≡ logsOf l s p
 log-same l m s p h =
-    log-is m s p (logsOf l s p) (λ k. ap (λ (y : Entry). y .slot) (h k) ∙ sym (log-here l s p k))
+    log-is m s p (logsOf l s p) (λ k. ap (λ (y : Entry). y .fill) (h k) ∙ sym (log-here l s p k))
     (λ k. simp (le-ltb p instructions k))
 
 -- an entry stored at place p of sheet s
 pub set-log :
     (l : List Entry) (s p : ℕ) (x : Entry) → length l ≡ entries → s < sheets → p < instructions →
-    logsOf (set l (baseOf s + p) x) ≡ put (logsOf l) s (put (logsOf l s) p (x .slot))
+    logsOf (set l (baseOf s + p) x) ≡ put (logsOf l) s (put (logsOf l s) p (x .fill))
 set-log l s p x n h m =
-    put-by (logsOf l) (logsOf now) s (put (logsOf l s) p (x .slot))
-    (put-by (logsOf l s) (logsOf now s) p (x .slot)
-    (log-here now s p m ∙ ap (λ (y : Entry). y .slot) (getD-set-same l (baseOf s + p) x entry0 (omega arith)))
+    put-by (logsOf l) (logsOf now) s (put (logsOf l s) p (x .fill))
+    (put-by (logsOf l s) (logsOf now s) p (x .fill)
+    (log-here now s p m ∙ ap (λ (y : Entry). y .fill) (getD-set-same l (baseOf s + p) x entry0 (omega arith)))
     (λ q d. log-same l now s q (λ k. getD-set-other l (baseOf s + p) (baseOf s + q) x entry0 (λ z. d (omega arith)))))
     (λ t d j q. log-same l now t q (λ k. getD-set-other l (baseOf s + p) (baseOf t + q) x entry0 (λ z. d (omega arith))) j)
   where
@@ -111,7 +111,7 @@ lay-log l s n h = put-by (logsOf l) (logsOf now) s (λ p. Empty) here other
         λ j p.
         log-is now s p Empty
         (λ k.
-        ap (λ (y : Entry). y .slot)
+        ap (λ (y : Entry). y .fill)
         (sym (part now s p k) ∙ ap (λ (m : List Entry). getD m p entry0) (lay-there (baseOf s) blanks l (omega arith)) ∙
         getD-replicate instructions p entry0 entry0 k))
         (λ k. refl) j
@@ -136,7 +136,7 @@ module _ (e : Engine) (g : Good e) (at : Places) (p : ℕ) (z : Within at) (h : 
       put (sceneOf e .lock) (at .lock) (v .lock) ≡ F .lock →
       sceneOf e .program ≡ F .program →
       put (sceneOf e .done) (at .sheet) (v .done) ≡ F .done →
-      put (sceneOf e .log) (at .sheet) (put (sceneOf e .log (at .sheet)) p (v .entry .slot)) ≡ F .log →
+      put (sceneOf e .log) (at .sheet) (put (sceneOf e .log (at .sheet)) p (v .entry .fill)) ≡ F .log →
       put (sceneOf e .worker) (at .worker) (v .worker) ≡ F .worker →
       sceneOf (putAt e at v) ≡ F
   unfolding putAt

@@ -12,7 +12,7 @@ use lib.ListN.{length, getD, length-append}
 use borrow.Author.Tests.{eqb-true, eqb-false, ltb-true, ltb-false, lt-ltb, le-ltb}
 use Rattle.parts.specs.Pick.{pick, _or_}
 use Rattle.parts.specs.declared.Holder.{Holder}
-use Rattle.parts.specs.declared.Holder.the-variants.{Free, Sheet}
+use Rattle.parts.specs.declared.Holder.the-variants.{Free, By}
 use Rattle.parts.specs.declared.LockWord.{LockWord}
 use Rattle.sheets.specs.Sheets.{anyOf, lockNames, workerKeeps, inUseOf, lowestOf}
 use Rattle.sheets.proofs.Lowest.{lowest-is}
@@ -112,7 +112,7 @@ gather-but n f (x ∷ xs) d (suc k) most h e =
 -- the sheets that a holder names, and that a worker keeps in use
 namedBy : Holder → List ℕ
 namedBy Free = []
-namedBy (Sheet s) = s ∷ []
+namedBy (By s) = s ∷ []
 
 keptBy : Worker → List ℕ
 keptBy k = onState (k .state) [] (λ p. k .own ∷ namedBy (helpedOf p)) (λ x. [])
@@ -120,12 +120,12 @@ keptBy k = onState (k .state) [] (λ p. k .own ∷ namedBy (helpedOf p)) (λ x. 
 named-is : (s : ℕ) (h : Holder) → anyOf (λ x. eqb x s) (namedBy h) ≡ names h s
 unfolding namedBy anyOf
 named-is s Free = refl
-named-is s (Sheet t) = or-false (eqb t s)
+named-is s (By t) = or-false (eqb t s)
 
 named-most : (h : Holder) → length (namedBy h) ≤ 1
 unfolding namedBy
 named-most Free = omega arith
-named-most (Sheet s) = omega arith
+named-most (By s) = omega arith
 
 kept-is : (s : ℕ) (k : Worker) → anyOf (λ x. eqb x s) (keptBy k) ≡ keeps k s
 unfolding keptBy anyOf

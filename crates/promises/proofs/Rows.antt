@@ -9,7 +9,7 @@ use Rattle.arrays.specs.Held.{heldTold}
 use Rattle.parts.specs.Pick.{onHolder}
 use Rattle.parts.specs.Told.{refuseIf, _then_, firstOf}
 use Rattle.parts.specs.declared.Holder.{Holder}
-use Rattle.parts.specs.declared.Holder.the-variants.{Free, Sheet}
+use Rattle.parts.specs.declared.Holder.the-variants.{Free, By}
 use Rattle.parts.specs.declared.Instr.{Instr}
 use Rattle.parts.specs.declared.LockWord.{LockWord}
 use Rattle.parts.specs.declared.Refusal.the-variants.{WorkerUnderWay, NotCollected, WorkerIdle, Held}
@@ -62,7 +62,7 @@ held-state :
     (h : Holder) (t : Told) (at : ℕ) →
     onHolder h t (λ s. Refused (Held at)) ≡ (refuseIf (onHolder h false (λ s. true)) (Held at) then t)
 held-state Free t at = refl
-held-state (Sheet s) t at = refl
+held-state (By s) t at = refl
 
 held-rows : (ls : List LockWord) (at : ℕ) → heldTold ls at ≡ firstOf (heldRows ls at)
 unfolding heldTold heldRows

@@ -15,10 +15,10 @@ use Rattle.parts.specs.Numbers.{workers, sheets, mostLocks, mostWords, instruct
 use Rattle.parts.specs.Parts.{word0, entry0, lock0}
 use Rattle.parts.specs.Pick.{_or_}
 use Rattle.parts.specs.declared.Entry.{Entry}
-use Rattle.parts.specs.declared.Holder.the-variants.{Free, Sheet}
+use Rattle.parts.specs.declared.Fill.the-variants.{Empty}
+use Rattle.parts.specs.declared.Holder.the-variants.{Free, By}
 use Rattle.parts.specs.declared.Holder.{Holder}
 use Rattle.parts.specs.declared.LockWord.{LockWord}
-use Rattle.parts.specs.declared.Slot.the-variants.{Empty}
 use Rattle.parts.specs.declared.Told.the-variants.{Accepted}
 use Rattle.parts.specs.declared.Word.{Word}
 use Rattle.parts.proofs.Order.{neither}
@@ -38,7 +38,7 @@ use Rattle.engine.specs.State.{sheet0, blankOf, freeSheet, lockCount, wordCount
 use Rattle.engine.specs.Calls.{freshOf, setupOf}
 use Rattle.engine.specs.declared.Engine.{Engine}
 use Rattle.engine.specs.declared.Outcome.{Outcome}
-use Rattle.engine.specs.declared.Sheet as engine
+use Rattle.engine.specs.declared.Sheet.{Sheet}
 use Rattle.helping.specs.Machine.{Rules, Unused}
 use Rattle.helping.specs.Ideal.{Fine}
 use Rattle.helping.specs.Ok.{Fresh}
@@ -90,13 +90,13 @@ made-fresh e g s t w l c p =
       count = c;
       unmarked =
           λ k.
-          ap (λ (xs : List engine.Sheet). getD xs k sheet0 .done) s ∙
+          ap (λ (xs : List Sheet). getD xs k sheet0 .done) s ∙
           replicate-all (λ x. x .done ≡ false) sheets sheet0 refl k;
       empty =
           λ k n.
           pick-all (λ x. x ≡ Empty) (ltb n instructions) _ Empty
-          (ap (λ (xs : List Entry). getD xs (baseOf k + n) entry0 .slot) t ∙
-          replicate-all (λ x. x .slot ≡ Empty) entries entry0 refl (baseOf k + n))
+          (ap (λ (xs : List Entry). getD xs (baseOf k + n) entry0 .fill) t ∙
+          replicate-all (λ x. x .fill ≡ Empty) entries entry0 refl (baseOf k + n))
           refl;
     }
   where
@@ -169,7 +169,7 @@ none-has has (x ∷ xs) d e h zero = neither (has x) (anyOf has xs) e .0
 none-has has (x ∷ xs) d e h (suc k) = none-has has xs d (neither (has x) (anyOf has xs) e .1) h k
 
 -- a holder that does not name a sheet is not that sheet
-not-named : (h : Holder) (s : ℕ) → names h s ≡ false → h ≢ Sheet s
+not-named : (h : Holder) (s : ℕ) → names h s ≡ false → h ≢ By s
 not-named h s e q =
     let z : _≡_ {A = ℕ} 0 1 = cc (ap (λ (x : Holder). names x s) q, eq-eqb s s refl) in
     omega arith
@@ -206,7 +206,7 @@ free-sheet e g w h i =
     room (e .lock) (e .worker) worker0 sheets w (omega arith) i (omega arith)
 
 -- a lock that is held is one of the L locks
-pub held-below : (p : Past) (l s : ℕ) → lockAt (stateAfter p) l .holder ≡ Sheet s → l < lockCount (stateAfter p)
+pub held-below : (p : Past) (l s : ℕ) → lockAt (stateAfter p) l .holder ≡ By s → l < lockCount (stateAfter p)
 held-below p l s h =
     ⊎-elim (λ q. q) (λ q. absurd (never q)) (below-or-not l (lockCount (stateAfter p)))
   where

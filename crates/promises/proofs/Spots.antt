@@ -7,11 +7,11 @@ use lib.Seq.{getD-take, getD-drop}
 use Rattle.parts.specs.Instr.{wordOf}
 use Rattle.parts.specs.Numbers.{workers, mostWords, sheets, instructions}
 use Rattle.parts.specs.Parts.{instr0, readingOf}
+use Rattle.parts.specs.declared.Fill.{Fill}
 use Rattle.parts.specs.declared.Instr.{Instr}
-use Rattle.parts.specs.declared.Slot.{Slot}
 use Rattle.steps.specs.Places.{runSpot, spotOf}
 use Rattle.steps.specs.declared.Point.{Point}
-use Rattle.steps.specs.declared.Point.the-variants.{Look, Grab, LookAgain, ReadMark, Read, Commit, Swap, Mark, Release}
+use Rattle.steps.specs.declared.Point.the-variants.{Look, Grab, LookAgain, ReadMark}
 use Rattle.steps.specs.declared.Run.{Run}
 use Rattle.steps.specs.declared.Spot.{Spot}
 use Rattle.steps.specs.declared.State.the-variants.{UnderWay}
@@ -45,11 +45,7 @@ spot-in K E m Look own h = (omega arith, omega arith)
 spot-in K E m (Grab seen) own h = (omega arith, omega arith)
 spot-in K E m (LookAgain won) own h = (omega arith, omega arith)
 spot-in K E m (ReadMark seen won) own h = (omega arith, omega arith)
-spot-in K E m (Read r) own h = run-in K E m r h
-spot-in K E m (Commit r u) own h = run-in K E m r (h .0)
-spot-in K E m (Swap r y new) own h = run-in K E m r (h .0)
-spot-in K E m (Mark r said) own h = run-in K E m r h
-spot-in K E m (Release r said) own h = run-in K E m r h
+spot-in K E m (Point.Run r at) own h = run-in K E m r (h .0)
 
 -- the instruction at a place of a sheet's program
 pub instr-is :
@@ -91,23 +87,23 @@ module _ (e : Engine) (w : ℕ) (p : Point) where
 
   -- an entry into its sheet's log, and this log into the logs
   module _ (h : spotAt e w p .place < instructions) where
-    pub entry-is : sceneOf e .log (spotAt e w p .sheet) (spotAt e w p .place) ≡ viewOf e w p .entry .slot
+    pub entry-is : sceneOf e .log (spotAt e w p .sheet) (spotAt e w p .place) ≡ viewOf e w p .entry .fill
     unfolding viewAt
     entry-is = log-here (e .entry) (spotAt e w p .sheet) (spotAt e w p .place) h
 
     pub entry-back :
         put (sceneOf e .log) (spotAt e w p .sheet)
-        (put (sceneOf e .log (spotAt e w p .sheet)) (spotAt e w p .place) (viewOf e w p .entry .slot)) ≡
+        (put (sceneOf e .log (spotAt e w p .sheet)) (spotAt e w p .place) (viewOf e w p .entry .fill)) ≡
         put (sceneOf e .log) (spotAt e w p .sheet) (sceneOf e .log (spotAt e w p .sheet))
     entry-back =
         let s = spotAt e w p .sheet in
         let n = spotAt e w p .place in
-        ap (λ (z : Slot). put (sceneOf e .log) s (put (sceneOf e .log s) n z)) (sym entry-is) ∙
-        ap (λ (x : ℕ → Slot). put (sceneOf e .log) s x) (put-idle (sceneOf e .log s) n _ refl)
+        ap (λ (z : Fill). put (sceneOf e .log) s (put (sceneOf e .log s) n z)) (sym entry-is) ∙
+        ap (λ (x : ℕ → Fill). put (sceneOf e .log) s x) (put-idle (sceneOf e .log s) n _ refl)
 
     pub log-back :
         put (sceneOf e .log) (spotAt e w p .sheet)
-        (put (sceneOf e .log (spotAt e w p .sheet)) (spotAt e w p .place) (viewOf e w p .entry .slot)) ≡
+        (put (sceneOf e .log (spotAt e w p .sheet)) (spotAt e w p .place) (viewOf e w p .entry .fill)) ≡
         sceneOf e .log
     log-back = entry-back ∙ put-idle (sceneOf e .log) (spotAt e w p .sheet) _ refl
 

@@ -8,11 +8,11 @@ use lib.ListN.{length}
 use Rattle.parts.specs.Numbers.{workers, instructions, lastTurn}
 use Rattle.parts.specs.Parts as parts
 use Rattle.parts.specs.Parts.{next32, readingOf, committedOf}
+use Rattle.parts.specs.declared.Fill.{Fill}
+use Rattle.parts.specs.declared.Fill.the-variants.{Filled}
 use Rattle.parts.specs.declared.Instr.{Instr}
 use Rattle.parts.specs.declared.LockWord.{LockWord}
 use Rattle.parts.specs.declared.Reading.{Reading}
-use Rattle.parts.specs.declared.Slot.{Slot}
-use Rattle.parts.specs.declared.Slot.the-variants.{Filled}
 use Rattle.records.specs.Job.{jobOf}
 use Rattle.steps.specs.Places.{spotOf}
 use Rattle.steps.specs.Try as steps
@@ -20,8 +20,9 @@ use Rattle.steps.specs.Try.{withLock, withWord, withEntry, withDone, toOf, atOf
 use Rattle.steps.specs.Worker as tries
 use Rattle.steps.specs.Worker.{worker0, lookingOf, beganOf}
 use Rattle.steps.specs.declared.Point.{Point}
-use Rattle.steps.specs.declared.Point.the-variants.{Look, Grab, LookAgain, ReadMark, Read, Commit, Swap, Mark, Release}
+use Rattle.steps.specs.declared.Point.the-variants.{Look, Grab, LookAgain, ReadMark}
 use Rattle.steps.specs.declared.Run.{Run}
+use Rattle.steps.specs.declared.Stage.the-variants.{Read, Commit, Swap, Mark, Release}
 use Rattle.steps.specs.declared.State.{State}
 use Rattle.steps.specs.declared.State.the-variants.{UnderWay}
 use Rattle.steps.specs.declared.View.{View}
@@ -35,7 +36,7 @@ use Rattle.engine.specs.declared.Places.{Places}
 use Rattle.engine.specs.declared.Sheet.{Sheet}
 use Rattle.helping.specs.Ideal.{Touches}
 use Rattle.helping.specs.Machine as machine
-use Rattle.helping.specs.Machine.{Rules, Scene, Shared, Pace, put, actOf, target, heldOf, ontoOf, sharedOf, setShared, setLock, movedOf, onTo, lookTo, paceOf, stepAt, begunOf, idledOf}
+use Rattle.helping.specs.Machine.{Rules, Scene, Shared, Pace, put, actOf, target, heldOf, ontoOf, sharedOf, setShared, setLock, movedOf, onTo, lookTo, pointOf, paceOf, stepAt, begunOf, idledOf}
 use Rattle.helping.specs.Ok.{Ranged}
 use Rattle.promises.specs.Good.{Good}
 use Rattle.promises.proofs.Kept.{begun-program}
@@ -48,13 +49,13 @@ use Rattle.promises.proofs.Spots.{exactOf, viewOf, word-back, lock-back
 module _ (K : Rules) (e : Engine) (g : Good e) (u : Under K e) (r : Ranged K (sceneOf e)) (w : ℕ) (h : w < workers) where
   -- a step that leaves the pieces of v, and the worker in state s: each part of the scene has its piece put in
   stepped :
-      {W : ℕ → Reading} {L : ℕ → LockWord} {D : ℕ → Bool} {M : ℕ → ℕ → Slot} (p : Point) → workerAt e w .state ≡ UnderWay p →
+      {W : ℕ → Reading} {L : ℕ → LockWord} {D : ℕ → Bool} {M : ℕ → ℕ → Fill} (p : Point) → workerAt e w .state ≡ UnderWay p →
       (v : View) (s : State) → effectOf p (viewOf e w p) ≡ toOf v s → v .worker ≡ workerAt e w →
       put (sceneOf e .word) (placesOf e w p .word) (readingOf (v .word)) ≡ W →
       put (sceneOf e .lock) (workerAt e w .lock) (v .lock) ≡ L →
       put (sceneOf e .done) (spotAt e w p .sheet) (v .done) ≡ D →
       put (sceneOf e .log) (spotAt e w p .sheet)
-      (put (sceneOf e .log (spotAt e w p .sheet)) (spotAt e w p .place) (v .entry .slot)) ≡ M →
+      (put (sceneOf e .log (spotAt e w p .sheet)) (spotAt e w p .place) (v .entry .fill)) ≡ M →
       sceneOf (steppedOf e w p) ≡
       record {
         word = W;
@@ -94,51 +95,55 @@ module _ (K : Rules) (e : Engine) (g : Good e) (u : Under K e) (r : Ranged K (sc
 
   -- where a step of a run leads
   abbrev pacedBy : Run → Pace → Scene
-  pacedBy c a = onTo (setShared (sceneOf e) (c .sheet) (a .shared)) w (workerAt e w) (UnderWay (a .point))
+  pacedBy c a = onTo (setShared (sceneOf e) (c .sheet) (a .shared)) w (workerAt e w) (UnderWay (pointOf a))
 
   read-at :
-      (c : Run) → workerAt e w .state ≡ UnderWay (Read c) →
-      sceneOf (steppedOf e w (Read c)) ≡ stepAt K (sceneOf e) w (workerAt e w) (Read c)
+      (c : Run) → workerAt e w .state ≡ UnderWay (Point.Run c Read) →
+      sceneOf (steppedOf e w (Point.Run c Read)) ≡ stepAt K (sceneOf e) w (workerAt e w) (Point.Run c Read)
   unfolding stepAt paceOf effectOf viewAt spotOf
   read-at c q =
-      let i = r .point w (Read c) q in
-      let a = run-at K e g u w h (Read c) q i c refl i in
-      let v = viewOf e w (Read c) in
+      let p = Point.Run c Read in
+      let i = r .point w p q in
+      let a = run-at K e g u w h p q i c refl (i .0) in
+      let v = viewOf e w p in
       let x = sharedOf (sceneOf e) (c .sheet) in
-      let act = actIn e w (Read c) c in
-      stepped (Read c) q v (UnderWay (machine.readOf act x c .point))
-      (read-is v c x (omega (arith, a .far)) (λ t. ap (sceneOf e .word) (a .word t))) refl (word-back e w (Read c)) (lock-back e w (Read c))
-      (done-back e w (Read c)) (entry-back e w (Read c) (place-of (Read c) q)) ∙
-      ap (λ (y : Shared). pacedBy c (record { shared = y; point = machine.readOf act x c .point })) (sym (read-keeps act x c)) ∙
+      let act = actIn e w p c in
+      let to = machine.readOf act x c in
+      stepped p q v (UnderWay (pointOf to))
+      (read-is v c x (omega (arith, a .far)) (λ t. ap (sceneOf e .word) (a .word t))) refl (word-back e w p) (lock-back e w p)
+      (done-back e w p) (entry-back e w p (place-of p q)) ∙
+      ap (λ (y : Shared). pacedBy c (record { shared = y; run = to .run; stage = to .stage })) (sym (read-keeps act x c)) ∙
       ap (λ (n : Instr). pacedBy c (machine.readOf (actOf n (c .registers)) x c)) (sym (a .instr))
 
   commit-at :
-      (c : Run) (y : Reading) → workerAt e w .state ≡ UnderWay (Commit c y) →
-      sceneOf (steppedOf e w (Commit c y)) ≡ stepAt K (sceneOf e) w (workerAt e w) (Commit c y)
+      (c : Run) (y : Reading) → workerAt e w .state ≡ UnderWay (Point.Run c (Commit y)) →
+      sceneOf (steppedOf e w (Point.Run c (Commit y))) ≡ stepAt K (sceneOf e) w (workerAt e w) (Point.Run c (Commit y))
   unfolding stepAt paceOf effectOf viewAt spotOf
   commit-at c y q =
-      let i = r .point w (Commit c y) q in
-      let a = run-at K e g u w h (Commit c y) q i c refl (i .0) in
-      let v = viewOf e w (Commit c y) in
+      let p = Point.Run c (Commit y) in
+      let i = r .point w p q in
+      let a = run-at K e g u w h p q i c refl (i .0) in
+      let v = viewOf e w p in
       let x = sharedOf (sceneOf e) (c .sheet) in
-      let act = actIn e w (Commit c y) c in
+      let act = actIn e w p c in
       let t = subst (λ (n : Instr). Touches (actOf n (c .registers))) (a .instr) (i .1) in
-      let z = entry-is e w (Commit c y) (place-of (Commit c y) q) in
-      let filled : committedOf (v .entry) y .slot ≡ Filled (heldOf (x .log (c .place)) y) =
-      committed-is (v .entry) y ∙ ap (λ (s : Slot). Filled (heldOf s y)) (sym z) in
-      stepped (Commit c y) q (withEntry v (committedOf (v .entry) y)) (UnderWay (machine.commitOf act x c y .point))
-      (commit-is v c y x t z (omega (arith, a .far)) (omega (arith, a .place))) refl (word-back e w (Commit c y)) (lock-back e w (Commit c y))
-      (done-back e w (Commit c y)) (ap (λ (s : Slot). put (sceneOf e .log) (c .sheet) (put (x .log) (c .place) s)) filled) ∙
-      ap (λ (s : Shared). pacedBy c (record { shared = s; point = machine.commitOf act x c y .point }))
+      let z = entry-is e w p (place-of p q) in
+      let filled : committedOf (v .entry) y .fill ≡ Filled (heldOf (x .log (c .place)) y) =
+      committed-is (v .entry) y ∙ ap (λ (s : Fill). Filled (heldOf s y)) (sym z) in
+      let to = machine.commitOf act x c y in
+      stepped p q (withEntry v (committedOf (v .entry) y)) (UnderWay (pointOf to))
+      (commit-is v c y x t z (omega (arith, a .far)) (omega (arith, a .place))) refl (word-back e w p) (lock-back e w p)
+      (done-back e w p) (ap (λ (s : Fill). put (sceneOf e .log) (c .sheet) (put (x .log) (c .place) s)) filled) ∙
+      ap (λ (s : Shared). pacedBy c (record { shared = s; run = to .run; stage = to .stage }))
       (sym (commit-shares act x c y t)) ∙
       ap (λ (n : Instr). pacedBy c (machine.commitOf (actOf n (c .registers)) x c y)) (sym (a .instr))
 
   swap-at :
-      (c : Run) (y : Reading) (new : ℕ) → workerAt e w .state ≡ UnderWay (Swap c y new) →
-      sceneOf (steppedOf e w (Swap c y new)) ≡ stepAt K (sceneOf e) w (workerAt e w) (Swap c y new)
+      (c : Run) (y : Reading) (new : ℕ) → workerAt e w .state ≡ UnderWay (Point.Run c (Swap y new)) →
+      sceneOf (steppedOf e w (Point.Run c (Swap y new))) ≡ stepAt K (sceneOf e) w (workerAt e w) (Point.Run c (Swap y new))
   unfolding stepAt paceOf effectOf viewAt spotOf steps.swapOf
   swap-at c y new q =
-      let p = Swap c y new in
+      let p = Point.Run c (Swap y new) in
       let i = r .point w p q in
       let a = run-at K e g u w h p q i c refl (i .0) in
       let v = viewOf e w p in
@@ -147,8 +152,8 @@ module _ (K : Rules) (e : Engine) (g : Good e) (u : Under K e) (r : Ranged K (sc
       let low : wordAt e m .count ≤ (instructions - 1) * lastTurn =
       subst (λ (n : ℕ). wordAt e m .count ≤ (n - 1) * lastTurn) (u .most)
       (subst (λ (n : ℕ). wordAt e m .count ≤ (K .most - 1) * n) (u .last) (r .count m (omega (arith, a .word t, a .below t)))) in
-      stepped p q (withWord v (parts.swapOf (v .word) y new)) (UnderWay (Read (ontoOf c 0 (c .registers))))
-      (ap (λ (d : Run). atOf (withWord v (parts.swapOf (v .word) y new)) (Read d))
+      stepped p q (withWord v (parts.swapOf (v .word) y new)) (UnderWay (Point.Run (ontoOf c 0 (c .registers)) Read))
+      (ap (λ (d : Run). atOf (withWord v (parts.swapOf (v .word) y new)) (Point.Run d Read))
       (onto-is c 0 (c .registers) (omega (arith, a .far)))) refl
       (ap (put (sceneOf e .word) m) (swap-is (v .word) y new (omega (arith, low))) ∙
       ap (λ (n : ℕ). put (sceneOf e .word) n (machine.swapOf (sceneOf e .word n) y new)) (a .word t))
@@ -160,7 +165,8 @@ module _ (K : Rules) (e : Engine) (g : Good e) (u : Under K e) (r : Ranged K (sc
       (record {
         shared =
             record { word = put (sceneOf e .word) d (machine.swapOf (sceneOf e .word d) y new); log = sceneOf e .log (c .sheet) };
-        point = Read (ontoOf c 0 (c .registers));
+        run = ontoOf c 0 (c .registers);
+        stage = Read;
       }))
       (sym (a .instr))
 
@@ -178,13 +184,13 @@ module _ (K : Rules) (e : Engine) (g : Good e) (u : Under K e) (r : Ranged K (sc
       lock-step (Grab seen) _ _ q (λ j. atOf (withLock (viewOf e w (Grab seen)) (x j)) (LookAgain (n j)))
   step-at (LookAgain won) q = before-run (LookAgain won) _ q refl
   step-at (ReadMark seen won) q = before-run (ReadMark seen won) _ q (mark-is (viewOf e w (ReadMark seen won)) seen won)
-  step-at (Read c) q = read-at c q
-  step-at (Commit c y) q = commit-at c y q
-  step-at (Swap c y new) q = swap-at c y new q
-  step-at (Mark c said) q =
-      stepped (Mark c said) q (withDone (viewOf e w (Mark c said))) _ refl refl (word-back e w (Mark c said)) (lock-back e w (Mark c said)) refl
-      (log-back e w (Mark c said) (place-of (Mark c said) q))
-  step-at (Release c said) q = lock-step (Release c said) _ _ q refl
+  step-at (Point.Run c Read) q = read-at c q
+  step-at (Point.Run c (Commit y)) q = commit-at c y q
+  step-at (Point.Run c (Swap y new)) q = swap-at c y new q
+  step-at (Point.Run c (Mark said)) q =
+      let p = Point.Run c (Mark said) in
+      stepped p q (withDone (viewOf e w p)) _ refl refl (word-back e w p) (lock-back e w p) refl (log-back e w p (place-of p q))
+  step-at (Point.Run c (Release said)) q = lock-step (Point.Run c (Release said)) _ _ q refl
 
 pub step-is :
     (K : Rules) (e : Engine) → Good e → Under K e → Ranged K (sceneOf e) → (w : ℕ) (p : Point) → w < workers →

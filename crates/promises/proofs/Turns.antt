@@ -9,11 +9,12 @@ use lib.ListN.{length}
 use borrow.Author.Tests.{eqb-true}
 use Rattle.parts.specs.Pick.{pick, onHolder}
 use Rattle.parts.specs.declared.Holder.{Holder}
-use Rattle.parts.specs.declared.Holder.the-variants.{Free, Sheet}
+use Rattle.parts.specs.declared.Holder.the-variants.{Free, By}
 use Rattle.parts.specs.declared.LockWord.{LockWord}
 use Rattle.alone.specs.Jobs.{Try}
 use Rattle.steps.specs.declared.Point.{Point}
-use Rattle.steps.specs.declared.Point.the-variants.{Look, Grab, LookAgain, ReadMark, Read, Commit, Swap, Mark, Release}
+use Rattle.steps.specs.declared.Point.the-variants.{Look, Grab, LookAgain, ReadMark}
+use Rattle.steps.specs.declared.Stage.the-variants.{Read, Commit, Swap, Mark, Release}
 use Rattle.steps.specs.declared.Worker.{Worker}
 use Rattle.engine.specs.State.{lockAt}
 use Rattle.engine.specs.Calls.{setupOf}
@@ -52,13 +53,13 @@ turned-grab from E T i k seen own h l = go (E .lock k .holder) (eqb (E .lock k .
 
     go :
         (o : Holder) (b : Bool) → eqb (E .lock k .turn) seen ≡ b →
-        put (E .lock) k (onHolder o (pick b (record { turn = suc seen; holder = Sheet own }) (E .lock k)) (λ s. E .lock k)) l .turn ≡
+        put (E .lock) k (onHolder o (pick b (record { turn = suc seen; holder = By own }) (E .lock k)) (λ s. E .lock k)) l .turn ≡
         from l + length (onHolder o (pick b (winTale T i k) T) (λ s. T) .won l)
     go Free true e =
-        turned-put from (E .lock) (T .won) k (record { turn = suc seen; holder = Sheet own }) (T .tries i ∷ T .won k) h
+        turned-put from (E .lock) (T .won) k (record { turn = suc seen; holder = By own }) (T .tries i ∷ T .won k) h
         (omega (arith, eqb-true (E .lock k .turn) seen e, h k)) l
     go Free false e = same l
-    go (Sheet s) b e = same l
+    go (By s) b e = same l
 
 release-turn : (l : LockWord) (won s : ℕ) → releaseOf l won s .turn ≡ l .turn
 unfolding releaseOf
@@ -73,7 +74,7 @@ release-turn l won s = go (l .holder)
         (h : Holder) →
         onHolder h l (λ t. pick (eqb t s) (pick (eqb (l .turn) won) (record { turn = l .turn; holder = Free }) l) l) .turn ≡ l .turn
     go Free = refl
-    go (Sheet t) = pass (eqb t s) (eqb (l .turn) won)
+    go (By t) = pass (eqb t s) (eqb (l .turn) won)
 
 turned-step :
     (K : Rules) (from : ℕ → ℕ) (E : Scene) (T : Tale) (i : ℕ) (k : Worker) (p : Point) → Turned from E T →
@@ -83,11 +84,11 @@ turned-step K from E T i k Look h = h
 turned-step K from E T i k (Grab seen) h = turned-grab from E T i (k .lock) seen (k .own) h
 turned-step K from E T i k (LookAgain won) h = h
 turned-step K from E T i k (ReadMark seen won) h = h
-turned-step K from E T i k (Read r) h = h
-turned-step K from E T i k (Commit r u) h = h
-turned-step K from E T i k (Swap r e new) h = h
-turned-step K from E T i k (Mark r said) h = h
-turned-step K from E T i k (Release r said) h =
+turned-step K from E T i k (Point.Run r Read) h = h
+turned-step K from E T i k (Point.Run r (Commit u)) h = h
+turned-step K from E T i k (Point.Run r (Swap e new)) h = h
+turned-step K from E T i k (Point.Run r (Mark said)) h = h
+turned-step K from E T i k (Point.Run r (Release said)) h =
     λ l.
     put-case (E .lock) (k .lock) (releaseOf (E .lock (k .lock)) (r .won) (r .sheet))
     (λ (y : LockWord). y .turn ≡ from l + length (T .won l)) l

@@ -11,7 +11,7 @@ use Rattle.parts.specs.declared.Instr.{Instr}
 use Rattle.parts.specs.declared.Registers.{Registers}
 use Rattle.parts.proofs.Touch.{touch-word}
 use Rattle.steps.specs.declared.Point.{Point}
-use Rattle.steps.specs.declared.Point.the-variants.{Look, Grab, LookAgain, ReadMark, Read, Commit, Swap, Mark, Release}
+use Rattle.steps.specs.declared.Point.the-variants.{Look, Grab, LookAgain, ReadMark}
 use Rattle.steps.specs.declared.Run.{Run}
 use Rattle.engine.specs.State.{workerAt, wordAt, programOf}
 use Rattle.engine.specs.declared.Engine.{Engine}
@@ -71,11 +71,7 @@ module _ (K : Rules) (e : Engine) (g : Good e) (u : Under K e) where
   point-uncut (Grab seen) h k = omega arith
   point-uncut (LookAgain won) h k = tt
   point-uncut (ReadMark seen won) h k = tt
-  point-uncut (Read r) h k = run-uncut r h k
-  point-uncut (Commit r y) h k = run-uncut r (h .0) (k .0)
-  point-uncut (Swap r y new) h k = run-uncut r (h .0) (k .0)
-  point-uncut (Mark r said) h k = run-uncut r h k
-  point-uncut (Release r said) h k = run-uncut r h k
+  point-uncut (Point.Run r at) h k = run-uncut r (h .0) (k .0)
 
   pub uncut : Ranged K (sceneOf e) → Uncut e
   uncut k =

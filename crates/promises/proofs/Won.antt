@@ -7,10 +7,11 @@ use lib.Dec.{eqb}
 use borrow.Author.Tests.{eqb-true}
 use Rattle.parts.specs.Pick.{pick, onHolder}
 use Rattle.parts.specs.declared.Holder.{Holder}
-use Rattle.parts.specs.declared.Holder.the-variants.{Free, Sheet}
+use Rattle.parts.specs.declared.Holder.the-variants.{Free, By}
 use Rattle.parts.specs.declared.LockWord.{LockWord}
 use Rattle.steps.specs.declared.Point.{Point}
-use Rattle.steps.specs.declared.Point.the-variants.{Look, Grab, LookAgain, ReadMark, Read, Commit, Swap, Mark, Release}
+use Rattle.steps.specs.declared.Point.the-variants.{Look, Grab, LookAgain, ReadMark}
+use Rattle.steps.specs.declared.Stage.the-variants.{Read, Commit, Swap, Mark, Release}
 use Rattle.steps.specs.declared.Worker.{Worker}
 use Rattle.engine.proofs.Begins.{begins}
 use Rattle.helping.specs.Machine.{Rules, Scene, Tale, put, grabOf, releaseOf, stepAt, stepTale, grabTale, winTale}
@@ -21,7 +22,7 @@ holds-still l = go (l .holder) refl
   where
     go : (h : Holder) → l .holder ≡ h → wonBy l l ≡ false
     go Free e = rw e
-    go (Sheet s) e = rw e
+    go (By s) e = rw e
 
 put-still : (f : ℕ → LockWord) (k : ℕ) (x : LockWord) → wonBy (f k) x ≡ false → (l : ℕ) → wonBy (f l) (put f k x l) ≡ false
 put-still f k x h l = go (eqb l k) refl
@@ -36,7 +37,7 @@ release-still l won s = go (l .holder) refl
   where
     go : (h : Holder) → l .holder ≡ h → wonBy l (releaseOf l won s) ≡ false
     go Free e = rw e
-    go (Sheet t) e = rw e
+    go (By t) e = rw e
 
 -- what a step makes of the won tries, where no lock was won
 none-won : (T : Tale) (i : ℕ) (f g : ℕ → LockWord) → ((l : ℕ) → wonBy (f l) (g l) ≡ false) →
@@ -68,12 +69,12 @@ grabbed T i k f seen own = go (f k .holder) (eqb (f k .turn) seen) refl
     go :
         (h : Holder) (b : Bool) → f k .holder ≡ h →
         (λ l.
-        pick (wonBy (f l) (put f k (onHolder h (pick b (record { turn = suc seen; holder = Sheet own }) (f k)) (λ s. f k)) l))
+        pick (wonBy (f l) (put f k (onHolder h (pick b (record { turn = suc seen; holder = By own }) (f k)) (λ s. f k)) l))
         (T .tries i ∷ T .won l) (T .won l)) ≡
         onHolder h (pick b (winTale T i k) T) (λ s. T) .won
     go Free true e = one-won T i k f _ (ap (λ (h : Holder). onHolder h true (λ s. false)) e)
     go Free false e = none-won T i f (put f k (f k)) (put-still f k (f k) (holds-still (f k)))
-    go (Sheet s) b e = none-won T i f (put f k (f k)) (put-still f k (f k) (holds-still (f k)))
+    go (By s) b e = none-won T i f (put f k (f k)) (put-still f k (f k) (holds-still (f k)))
 
 pub won-is : (K : Rules) (T : Tale) (E : Scene) (i : ℕ) (k : Worker) (p : Point) →
     (λ l. pick (wonBy (E .lock l) (stepAt K E i k p .lock l)) (T .tries i ∷ T .won l) (T .won l)) ≡ stepTale T E i k p .won
@@ -82,11 +83,11 @@ won-is K T E i k Look = none-won T i (E .lock) (E .lock) (λ l. holds-still (E .
 won-is K T E i k (Grab seen) = grabbed T i (k .lock) (E .lock) seen (k .own)
 won-is K T E i k (LookAgain won) = none-won T i (E .lock) (E .lock) (λ l. holds-still (E .lock l))
 won-is K T E i k (ReadMark seen won) = none-won T i (E .lock) (E .lock) (λ l. holds-still (E .lock l))
-won-is K T E i k (Read r) = none-won T i (E .lock) (E .lock) (λ l. holds-still (E .lock l))
-won-is K T E i k (Commit r u) = none-won T i (E .lock) (E .lock) (λ l. holds-still (E .lock l))
-won-is K T E i k (Swap r e new) = none-won T i (E .lock) (E .lock) (λ l. holds-still (E .lock l))
-won-is K T E i k (Mark r said) = none-won T i (E .lock) (E .lock) (λ l. holds-still (E .lock l))
-won-is K T E i k (Release r said) =
+won-is K T E i k (Point.Run r Read) = none-won T i (E .lock) (E .lock) (λ l. holds-still (E .lock l))
+won-is K T E i k (Point.Run r (Commit u)) = none-won T i (E .lock) (E .lock) (λ l. holds-still (E .lock l))
+won-is K T E i k (Point.Run r (Swap e new)) = none-won T i (E .lock) (E .lock) (λ l. holds-still (E .lock l))
+won-is K T E i k (Point.Run r (Mark said)) = none-won T i (E .lock) (E .lock) (λ l. holds-still (E .lock l))
+won-is K T E i k (Point.Run r (Release said)) =
     none-won T i (E .lock) (put (E .lock) (k .lock) (releaseOf (E .lock (k .lock)) (r .won) (r .sheet)))
     (put-still (E .lock) (k .lock) _ (release-still (E .lock (k .lock)) (r .won) (r .sheet)))
 
@@ -104,11 +105,7 @@ only-won T E i k (Grab seen) = go (E .lock (k .lock) .holder) (eqb (E .lock (k .
         record { begins = T .begins; tries = T .tries; won = to .won } ≡ to
     go Free true = refl
     go Free false = refl
-    go (Sheet s) b = refl
+    go (By s) b = refl
 only-won T E i k (LookAgain won) = refl
 only-won T E i k (ReadMark seen won) = refl
-only-won T E i k (Read r) = refl
-only-won T E i k (Commit r u) = refl
-only-won T E i k (Swap r e new) = refl
-only-won T E i k (Mark r said) = refl
-only-won T E i k (Release r said) = refl
+only-won T E i k (Point.Run r at) = refl

@@ -7,25 +7,27 @@ use lib.ListN.{length, getD}
 use Rattle.parts.specs.Numbers.{workers, mostLocks, mostWords, sheets, instructions, entries, lastTurn}
 use Rattle.parts.specs.Parts.{instr0, entry0, lock0, word0}
 use Rattle.parts.specs.declared.Entry.{Entry}
+use Rattle.parts.specs.declared.Fill.{Fill}
+use Rattle.parts.specs.declared.Fill.the-variants.{Empty, Filled}
 use Rattle.parts.specs.declared.Holder.{Holder}
-use Rattle.parts.specs.declared.Holder.the-variants.{Free, Sheet}
+use Rattle.parts.specs.declared.Holder.the-variants.{Free, By}
 use Rattle.parts.specs.declared.Instr.{Instr}
 use Rattle.parts.specs.declared.LockWord.{LockWord}
 use Rattle.parts.specs.declared.Reading.{Reading}
 use Rattle.parts.specs.declared.Registers.{Registers}
-use Rattle.parts.specs.declared.Slot.{Slot}
-use Rattle.parts.specs.declared.Slot.the-variants.{Empty, Filled}
 use Rattle.parts.specs.declared.Word.{Word}
 use Rattle.steps.specs.Worker.{worker0}
 use Rattle.steps.specs.declared.Point.{Point}
-use Rattle.steps.specs.declared.Point.the-variants.{Look, Grab, LookAgain, ReadMark, Read, Commit, Swap, Mark, Release}
+use Rattle.steps.specs.declared.Point.the-variants.{Look, Grab, LookAgain, ReadMark}
 use Rattle.steps.specs.declared.Run.{Run}
+use Rattle.steps.specs.declared.Stage.{Stage}
+use Rattle.steps.specs.declared.Stage.the-variants.{Read, Commit, Swap, Mark, Release}
 use Rattle.steps.specs.declared.State.{State}
 use Rattle.steps.specs.declared.State.the-variants.{Idle, UnderWay, Finished}
 use Rattle.steps.specs.declared.Worker.{Worker}
 use Rattle.engine.specs.State.{sheet0}
 use Rattle.engine.specs.declared.Engine.{Engine}
-use Rattle.engine.specs.declared.Sheet as engine
+use Rattle.engine.specs.declared.Sheet.{Sheet}
 
 -- a number of 32 bits
 abbrev pub Fits : ℕ → Type 0
@@ -38,7 +40,7 @@ Byte n = n < 256
 -- "either free or held by a named sheet"
 abbrev pub GoodHolder : Holder → Type 0
 GoodHolder Free = Unit {0}
-GoodHolder (Sheet s) = s < sheets
+GoodHolder (By s) = s < sheets
 
 -- "Turns run from 0 to 67,108,864"
 pub record GoodLock (l : LockWord) : Type 0 where
@@ -68,15 +70,15 @@ pub record GoodInstr (i : Instr) : Type 0 where
   pub b : Byte (i .b)
   pub c : Byte (i .c)
 
-abbrev pub GoodSlot : Slot → Type 0
-GoodSlot Empty = Unit {0}
-GoodSlot (Filled r) = GoodReading r
+abbrev pub GoodFill : Fill → Type 0
+GoodFill Empty = Unit {0}
+GoodFill (Filled r) = GoodReading r
 
 abbrev pub GoodEntry : Entry → Type 0
-GoodEntry e = GoodSlot (e .slot)
+GoodEntry e = GoodFill (e .fill)
 
 -- "1 to 32 instructions in a job"; a sheet that no job was copied to has none
-abbrev pub GoodSheet : engine.Sheet → Type 0
+abbrev pub GoodSheet : Sheet → Type 0
 GoodSheet s = s .length ≤ instructions
 
 pub record GoodRun (r : Run) : Type 0 where
@@ -86,17 +88,21 @@ pub record GoodRun (r : Run) : Type 0 where
   pub place : Byte (r .place)
   pub registers : GoodRegisters (r .registers)
 
+-- what a run remembers at a stage
+abbrev pub GoodStage : Stage → Type 0
+GoodStage Read = Unit {0}
+GoodStage (Commit read) = GoodReading read
+GoodStage (Swap entry new) = GoodReading entry × Fits new
+GoodStage (Mark said) = Unit {0}
+GoodStage (Release said) = Unit {0}
+
 -- what a worker remembers at a point of its try. Look goes on to Grab only where the lock's turn is not the last.
 abbrev pub GoodPoint : Point → Type 0
 GoodPoint Look = Unit {0}
 GoodPoint (Grab seen) = seen < lastTurn
 GoodPoint (LookAgain won) = won ≤ lastTurn
 GoodPoint (ReadMark seen won) = GoodLock seen × (won ≤ lastTurn)
-GoodPoint (Read r) = GoodRun r
-GoodPoint (Commit r read) = GoodRun r × GoodReading read
-GoodPoint (Swap r entry new) = GoodRun r × GoodReading entry × Fits new
-GoodPoint (Mark r said) = GoodRun r
-GoodPoint (Release r said) = GoodRun r
+GoodPoint (Point.Run r at) = GoodRun r × GoodStage at
 
 -- of a state with L locks: where a worker is under way there is a lock
 abbrev pub GoodState : ℕ → State → Type 0

@@ -16,7 +16,7 @@ use Rattle.parts.specs.Told.{onTold}
 use Rattle.parts.specs.declared.Answer.{Answer}
 use Rattle.parts.specs.declared.Answer.the-variants.{RanYes, RanNo, NotTaken}
 use Rattle.parts.specs.declared.Asks.the-variants.{Go, Touch}
-use Rattle.parts.specs.declared.Holder.the-variants.{Free, Sheet}
+use Rattle.parts.specs.declared.Holder.the-variants.{Free, By}
 use Rattle.parts.specs.declared.Instr.{Instr}
 use Rattle.parts.specs.declared.LockWord.{LockWord}
 use Rattle.parts.specs.declared.Registers.{Registers}
@@ -26,7 +26,7 @@ use Rattle.records.specs.Job.{jobOf, jobTold}
 use Rattle.alone.specs.Alone.{aloneOf}
 use Rattle.alone.specs.Jobs.{Try, givesOf, times, partOf}
 use Rattle.steps.specs.declared.Point.{Point}
-use Rattle.steps.specs.declared.Point.the-variants.{Look, Grab, LookAgain, ReadMark, Read, Commit, Swap, Mark, Release}
+use Rattle.steps.specs.declared.Point.the-variants.{Look, Grab, LookAgain, ReadMark}
 use Rattle.steps.specs.declared.Run.{Run}
 use Rattle.steps.specs.declared.State.the-variants.{Idle, UnderWay, Finished}
 use Rattle.engine.specs.State.{sheet0, lockCount, wordCount, workerAt, lockAt, wordAt, wordsOf, baseOf, programLength, programOf}
@@ -229,11 +229,7 @@ PointUncut e Look = Unit {0}
 PointUncut e (Grab seen) = next32 seen ≡ seen + 1
 PointUncut e (LookAgain won) = Unit {0}
 PointUncut e (ReadMark seen won) = Unit {0}
-PointUncut e (Read r) = RunUncut e r
-PointUncut e (Commit r u) = RunUncut e r
-PointUncut e (Swap r u new) = RunUncut e r
-PointUncut e (Mark r said) = RunUncut e r
-PointUncut e (Release r said) = RunUncut e r
+PointUncut e (Point.Run r at) = RunUncut e r
 
 -- of worker w, under way at p: its lock is one of the L locks, its own sheet is a sheet, its count of steps rises by one
 pub record WorkerUncut (e : Engine) (w : ℕ) (p : Point) : Type 0 where
@@ -260,10 +256,10 @@ pub record Promised (e₀ : Engine) (x : Sofar) : Type 0 where
   -- "a free lock's words are what the jobs that won it give, run once each, alone, in order"
   pub free : (l : ℕ) → lockAt (x .state) l .holder ≡ Free → Hold e₀ (x .state) l (given e₀ (x .won l))
   -- "a held lock's are all but the last, then some first part of the last"
-  pub held : (l s : ℕ) → lockAt (x .state) l .holder ≡ Sheet s → HeldWords e₀ x l s
+  pub held : (l s : ℕ) → lockAt (x .state) l .holder ≡ By s → HeldWords e₀ x l s
   -- "which any other worker completes within 97 steps": every idle worker, with every job that is valid there
   pub helping :
-      (l s : ℕ) → lockAt (x .state) l .holder ≡ Sheet s → (w : ℕ) (rec : List ℕ) → w < workers →
+      (l s : ℕ) → lockAt (x .state) l .holder ≡ By s → (w : ℕ) (rec : List ℕ) → w < workers →
       workerAt (x .state) w .state ≡ Idle → AllBytes rec →
       jobTold rec l (guardsOf (wordsOf (x .state))) ≡ Accepted → Completed e₀ x w l rec
   -- ""ran" tells the answer of that one run"

@@ -4,7 +4,7 @@ use mathlib.Core.Path.{_≡_}
 use mathlib.Core.List.{List, [], _∷_, _++_}
 use Rattle.parts.specs.Told.{answerNumber}
 use Rattle.parts.specs.declared.Holder.{Holder}
-use Rattle.parts.specs.declared.Holder.the-variants.{Free, Sheet}
+use Rattle.parts.specs.declared.Holder.the-variants.{Free, By}
 use Rattle.parts.specs.declared.Refusal.the-variants.{WorkerUnderWay, WorkerIdle}
 use Rattle.parts.specs.declared.Told.the-variants.{Accepted}
 use Rattle.engine.specs.Calls.{setupOf, beginOf, collectOf, readWordOf, readLockOf}
@@ -113,7 +113,7 @@ pub record Table : Type 0 where
   -- "B alone": "12 steps, ran no"
   pub b : Ends (Begin 0 0 jobB ∷ []) 0 (record { more = 12; answer = ranNo; steps = 12; value = 5; count = 0; turn = 1 })
   -- "worker 0: A, 10 steps, drop": "word 0 = 5, held"
-  pub c : Stands (on callsC) 5 0 1 (Sheet 0) × NowIdle (collectOf (on callsC) 0 .told)
+  pub c : Stands (on callsC) 5 0 1 (By 0) × NowIdle (collectOf (on callsC) 0 .told)
   -- "then worker 1: B alone": "11 steps, not taken, word 0 = 6, free"
   pub d : Ends callsD 1 (record { more = 11; answer = notTaken; steps = 11; value = 6; count = 1; turn = 1 })
   -- "as c, d without the drop, then worker 0 stepped to its end": "14 steps, ran yes, count 1"

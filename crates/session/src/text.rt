@@ -157,7 +157,7 @@ fn put_holder(buf: &mut [u8], at: usize, holder: Holder) -> usize
 {
     match holder {
         Holder::Free => put_two(buf, at, 32, 45),
-        Holder::Sheet(s) => put_number(buf, at, s as u64),
+        Holder::By(s) => put_number(buf, at, s as u64),
     }
 }
 

@@ -12,7 +12,7 @@ use borrow.Author.Tests.{eqb-true, eqb-false, lt-ltb}
 use Rattle.parts.specs.Numbers.{sheets}
 use Rattle.parts.specs.Pick.{pick, _or_}
 use Rattle.parts.specs.declared.Holder.{Holder}
-use Rattle.parts.specs.declared.Holder.the-variants.{Free, Sheet}
+use Rattle.parts.specs.declared.Holder.the-variants.{Free, By}
 use Rattle.parts.specs.declared.LockWord.{LockWord}
 use Rattle.steps.specs.Places.{names, helpedOf}
 use Rattle.steps.specs.Worker.{onState}
@@ -136,13 +136,13 @@ holder-marks = record { kept = kept; more = more }
   where
     kept : (marks : List Bool) (x : Holder) → length (holderMarks marks x) ≡ length marks
     kept marks Free = refl
-    kept marks (Sheet t) = sheet-marks .kept marks t
+    kept marks (By t) = sheet-marks .kept marks t
 
     more :
         (marks : List Bool) (x : Holder) (s : ℕ) → s < sheets → sheets ≤ length marks →
         markedOf (holderMarks marks x) s ≡ (markedOf marks s or names x s)
     more marks Free s h l = sym (or-none (markedOf marks s))
-    more marks (Sheet t) s h l = sheet-marks .more marks t s h l
+    more marks (By t) s h l = sheet-marks .more marks t s h l
 
 lock-marks : Marks lockMarks lockNames
 unfolding lockMarks

@@ -29,7 +29,7 @@ pub fn mark_holder(marks: &mut [bool; SHEETS], h: Holder)
 {
     match h {
         Holder::Free => {}
-        Holder::Sheet(s) => mark(marks, s),
+        Holder::By(s) => mark(marks, s),
     }
 }
 

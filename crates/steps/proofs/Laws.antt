@@ -11,6 +11,8 @@ use Rattle.parts.specs.declared.Follows.the-variants.{Done, Swap}
 use Rattle.parts.specs.declared.Registers.{Registers}
 use Rattle.steps.specs.Worker.{onState}
 use Rattle.steps.specs.declared.Point.{Point}
+use Rattle.steps.specs.declared.Run.{Run}
+use Rattle.steps.specs.declared.Stage.{Stage}
 use Rattle.steps.specs.declared.State.{State}
 use Rattle.steps.specs.declared.State.the-variants.{Idle, UnderWay, Finished}
 
@@ -48,6 +50,12 @@ pub follows-swap :
     {A : Type 0} (q s : Follows) (n : ℕ) (x : A) (f : Registers → A) (g : ℕ → A) →
     q ≡ s → q ≡ Swap n → x ≡ g n → x ≡ onFollows s f g
 follows-swap q s n x f g p k e = simp (sym p ∙ k) e
+
+-- a function of a run by its stage, f, at a stage whose case is known
+pub at-stage :
+    {B C : Type 0} (f : Stage → Run → B → C) (p q : Stage) (r : Run) (y : B) (x : C) →
+    p ≡ q → x ≡ f q r y → x ≡ f p r y
+at-stage f p q r y x h e = simp h e
 
 pub ruleset states = (state-idle, state-way, state-end)
 

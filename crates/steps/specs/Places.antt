@@ -4,10 +4,10 @@ use mathlib.Core.Bool.{Bool, false}
 use lib.Dec.{eqb}
 use Rattle.parts.specs.Pick.{_or_, onHolder}
 use Rattle.parts.specs.declared.Holder.{Holder}
-use Rattle.parts.specs.declared.Holder.the-variants.{Free, Sheet}
+use Rattle.parts.specs.declared.Holder.the-variants.{Free, By}
 use Rattle.steps.specs.Worker.{onState}
 use Rattle.steps.specs.declared.Point.{Point}
-use Rattle.steps.specs.declared.Point.the-variants.{Look, Grab, LookAgain, ReadMark, Read, Commit, Swap, Mark, Release}
+use Rattle.steps.specs.declared.Point.the-variants.{Look, Grab, LookAgain, ReadMark}
 use Rattle.steps.specs.declared.Run.{Run}
 use Rattle.steps.specs.declared.Spot.{Spot}
 use Rattle.steps.specs.declared.Worker.{Worker}
@@ -24,11 +24,7 @@ spotOf Look own = ownSpot own
 spotOf (Grab seen) own = ownSpot own
 spotOf (LookAgain won) own = ownSpot own
 spotOf (ReadMark seen won) own = ownSpot own
-spotOf (Read r) own = runSpot r
-spotOf (Commit r read) own = runSpot r
-spotOf (Swap r entry new) own = runSpot r
-spotOf (Mark r said) own = runSpot r
-spotOf (Release r said) own = runSpot r
+spotOf (Point.Run r at) own = runSpot r
 
 -- the sheet that is helped at a point, or run. "If another sheet holds it, that sheet counts as helped from now" (3); "run the
 -- own sheet, and a sheet seen at 3 no longer counts as helped" (4)
@@ -37,11 +33,7 @@ helpedOf Look = Free
 helpedOf (Grab seen) = Free
 helpedOf (LookAgain won) = Free
 helpedOf (ReadMark seen won) = seen .holder
-helpedOf (Read r) = Sheet (r .sheet)
-helpedOf (Commit r read) = Sheet (r .sheet)
-helpedOf (Swap r entry new) = Sheet (r .sheet)
-helpedOf (Mark r said) = Sheet (r .sheet)
-helpedOf (Release r said) = Sheet (r .sheet)
+helpedOf (Point.Run r at) = By (r .sheet)
 
 -- it is sheet s that is named
 abbrev pub names : Holder → ℕ → Bool

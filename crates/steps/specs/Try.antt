@@ -16,8 +16,10 @@ use Rattle.parts.specs.declared.Registers.{Registers}
 use Rattle.parts.specs.declared.Word.{Word}
 use Rattle.steps.specs.Worker.{movedOf}
 use Rattle.steps.specs.declared.Point.{Point}
-use Rattle.steps.specs.declared.Point.the-variants.{Look, Grab, LookAgain, ReadMark, Read, Commit, Swap, Mark, Release}
+use Rattle.steps.specs.declared.Point.the-variants.{Look, Grab, LookAgain, ReadMark}
 use Rattle.steps.specs.declared.Run.{Run}
+use Rattle.steps.specs.declared.Stage.{Stage}
+use Rattle.steps.specs.declared.Stage.the-variants.{Read, Commit, Swap, Mark, Release}
 use Rattle.steps.specs.declared.State.{State}
 use Rattle.steps.specs.declared.State.the-variants.{UnderWay, Finished}
 use Rattle.steps.specs.declared.View.{View}
@@ -86,7 +88,7 @@ unfoldable pub lookOf : View → View
 lookOf v =
     onHolder (v .lock .holder)
     (pick (eqb (v .lock .turn) lastTurn) (toOf v (Finished NotTaken)) (atOf v (Grab (v .lock .turn))))
-    (λ s. atOf v (Read (startOf s (v .lock .turn))))
+    (λ s. atOf v (Point.Run (startOf s (v .lock .turn)) Read))
 
 -- "2. Grab. If the lock word is still what was remembered, it becomes turn + 1, held by the worker's own sheet. Otherwise
 -- nothing changes."
@@ -101,25 +103,25 @@ lookAgainOf v won = atOf v (ReadMark (v .lock) won)
 -- helped. Otherwise, if step 3 saw another sheet: help it. Otherwise finish, not taken."
 unfoldable pub readMarkOf : View → LockWord → ℕ → View
 readMarkOf v seen won =
-    pick (v .done) (atOf v (Read (startOf (v .worker .own) won)))
+    pick (v .done) (atOf v (Point.Run (startOf (v .worker .own) won) Read))
     (onHolder (seen .holder) (toOf v (Finished NotTaken))
     (λ s.
-    pick (eqb s (v .worker .own)) (atOf v (Read (startOf (v .worker .own) won)))
-    (atOf v (Read (startOf s (seen .turn))))))
+    pick (eqb s (v .worker .own)) (atOf v (Point.Run (startOf (v .worker .own) won) Read))
+    (atOf v (Point.Run (startOf s (seen .turn)) Read))))
 
 -- "5. Run .. Set, add, sub, skip and halt: one step each. Load: read the word; .. Store: read; .. Cam: read; .."
 unfoldable pub readOf : View → Run → View
 readOf v r =
-    onAsks (asksOf (v .instr) (r .registers)) (λ said. atOf v (Mark r said))
-    (λ registers over. atOf v (Read (ontoOf r over registers)))
-    (λ w. atOf v (Commit r (readingOf (v .word))))
+    onAsks (asksOf (v .instr) (r .registers)) (λ said. atOf v (Point.Run r (Mark said)))
+    (λ registers over. atOf v (Point.Run (ontoOf r over registers) Read))
+    (λ w. atOf v (Point.Run r (Commit (readingOf (v .word)))))
 
 -- "Load: .. commit. Store: .. commit; swap. Cam: .. commit; swap, the last only if the committed value equals register a." What
 -- follows of the entry's value: the next instruction, or the swap
 unfoldable pub followOf : View → Run → Reading → View
 followOf v r held =
-    onFollows (followsOf (v .instr) (r .registers) (held .value)) (λ registers. atOf v (Read (ontoOf r 0 registers)))
-    (λ new. atOf v (Swap r held new))
+    onFollows (followsOf (v .instr) (r .registers) (held .value)) (λ registers. atOf v (Point.Run (ontoOf r 0 registers) Read))
+    (λ new. atOf v (Point.Run r (Swap held new)))
 
 -- "Commit: if the log entry at the place is empty it takes the value and count read; either way the worker goes on with what
 -- the entry holds, and the place rises by one."
@@ -129,11 +131,11 @@ commitOf v r read = followOf (withEntry v (committedOf (v .entry) read)) (logged
 -- "Swap: if the word's value and count equal the entry's, the word takes the new value and its count rises by one"
 unfoldable pub swapOf : View → Run → Reading → ℕ → View
 swapOf v r entry new =
-    atOf (withWord v (parts.swapOf (v .word) entry new)) (Read (ontoOf r 0 (r .registers)))
+    atOf (withWord v (parts.swapOf (v .word) entry new)) (Point.Run (ontoOf r 0 (r .registers)) Read)
 
 -- "6. Mark the sheet done."
 unfoldable pub markOf : View → Run → Bool → View
-markOf v r said = atOf (withDone v) (Release r said)
+markOf v r said = atOf (withDone v) (Point.Run r (Release said))
 
 -- "own sheet, ran with the halt's answer; helped sheet, not taken"
 unfoldable pub answerOf : Run → ℕ → Bool → Answer
@@ -146,14 +148,18 @@ releaseOf v r said =
     toOf (withLock v (parts.releaseOf (v .lock) (r .won) (r .sheet)))
     (Finished (answerOf r (v .worker .own) said))
 
+-- a step of a run, by its stage
+abbrev pub runEffect : Stage → Run → View → View
+runEffect Read r v = readOf v r
+runEffect (Commit read) r v = commitOf v r read
+runEffect (Swap entry new) r v = swapOf v r entry new
+runEffect (Mark said) r v = markOf v r said
+runEffect (Release said) r v = releaseOf v r said
+
 -- "Each line but 5 is one step."
 unfoldable pub effectOf : Point → View → View
 effectOf Look v = lookOf v
 effectOf (Grab seen) v = grabOf v seen
 effectOf (LookAgain won) v = lookAgainOf v won
 effectOf (ReadMark seen won) v = readMarkOf v seen won
-effectOf (Read r) v = readOf v r
-effectOf (Commit r read) v = commitOf v r read
-effectOf (Swap r entry new) v = swapOf v r entry new
-effectOf (Mark r said) v = markOf v r said
-effectOf (Release r said) v = releaseOf v r said
+effectOf (Point.Run r at) v = runEffect at r v

@@ -35,14 +35,20 @@ pub enum Point {
     LookAgain(u32),
     // What Look again saw, and that turn.
     ReadMark(LockWord, u32),
+    // From line 5 on: a sheet's run, and where in it.
+    Run(Run, Stage),
+}
+
+// Where a run stands.
+pub enum Stage {
     // The first step of the next instruction.
-    Read(Run),
-    Commit(Run, Reading),
+    Read,
+    Commit(Reading),
     // What the entry holds, and the new value.
-    Swap(Run, Reading, u32),
+    Swap(Reading, u32),
     // The halt's answer.
-    Mark(Run, bool),
-    Release(Run, bool),
+    Mark(bool),
+    Release(bool),
 }
 
 pub enum State {
@@ -181,11 +187,7 @@ impl Point {
             Point::Grab(_) => start,
             Point::LookAgain(_) => start,
             Point::ReadMark(_, _) => start,
-            Point::Read(run) => run.spot(),
-            Point::Commit(run, _) => run.spot(),
-            Point::Swap(run, _, _) => run.spot(),
-            Point::Mark(run, _) => run.spot(),
-            Point::Release(run, _) => run.spot(),
+            Point::Run(run, _) => run.spot(),
         }
     }
 
@@ -198,11 +200,7 @@ impl Point {
             Point::Grab(_) => Holder::Free,
             Point::LookAgain(_) => Holder::Free,
             Point::ReadMark(seen, _) => seen.holder,
-            Point::Read(run) => Holder::Sheet(run.sheet),
-            Point::Commit(run, _) => Holder::Sheet(run.sheet),
-            Point::Swap(run, _, _) => Holder::Sheet(run.sheet),
-            Point::Mark(run, _) => Holder::Sheet(run.sheet),
-            Point::Release(run, _) => Holder::Sheet(run.sheet),
+            Point::Run(run, _) => Holder::By(run.sheet),
         }
     }
 }

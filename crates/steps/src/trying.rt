@@ -1,8 +1,9 @@
 // One try, step by step: each line of document 01's list on the pieces that it touches.
 ghost use mathlib.Core.Path.{_≡_};
-ghost use Rattle.steps.specs.Try.{startOf, ontoOf, loggedOf, toOf, atOf, lookOf, grabOf, lookAgainOf, readMarkOf, readOf, followOf, commitOf, swapOf, markOf, releaseOf, answerOf, effectOf};
+ghost use Rattle.steps.specs.Try.{startOf, ontoOf, loggedOf, toOf, atOf, lookOf, grabOf, lookAgainOf, readMarkOf, readOf, followOf, commitOf, swapOf, markOf, releaseOf, answerOf, runEffect, effectOf};
 use crate::Point;
 use crate::Run;
+use crate::Stage;
 use crate::State;
 use crate::View;
 use parts::Answer;
@@ -91,7 +92,7 @@ impl View {
         let l = self.lock;
         let h = l.holder;
         match h {
-            Holder::Sheet(s) => self.at(Point::Read(Run::start(s, l.turn))),
+            Holder::By(s) => self.at(Point::Run(Run::start(s, l.turn), Stage::Read)),
             Holder::Free => {
                 if l.turn == LAST_TURN {
                     return self.to(State::Finished(Answer::NotTaken));
@@ -128,16 +129,16 @@ impl View {
         let k = self.worker;
         let own = k.own;
         if self.done {
-            return self.at(Point::Read(Run::start(own, won)));
+            return self.at(Point::Run(Run::start(own, won), Stage::Read));
         }
         let h = seen.holder;
         match h {
             Holder::Free => self.to(State::Finished(Answer::NotTaken)),
-            Holder::Sheet(s) => {
+            Holder::By(s) => {
                 if s == own {
-                    return self.at(Point::Read(Run::start(own, won)));
+                    return self.at(Point::Run(Run::start(own, won), Stage::Read));
                 }
-                self.at(Point::Read(Run::start(s, seen.turn)))
+                self.at(Point::Run(Run::start(s, seen.turn), Stage::Read))
             }
         }
     }
@@ -149,11 +150,14 @@ impl View {
         let i = self.instr;
         let asks = i.asks(run.registers);
         match asks {
-            Asks::Halt(said) => self.at(Point::Mark(run, said)),
-            Asks::Go(registers, over) => self.at(Point::Read(run.onto(over, registers))),
+            Asks::Halt(said) => self.at(Point::Run(run, Stage::Mark(said))),
+            Asks::Go(registers, over) => self.at(Point::Run(
+                run.onto(over, registers),
+                Stage::Read,
+            )),
             Asks::Touch(_) => {
                 let w = self.word;
-                self.at(Point::Commit(run, w.reading()))
+                self.at(Point::Run(run, Stage::Commit(w.reading())))
             }
         }
     }
@@ -165,8 +169,8 @@ impl View {
         let i = self.instr;
         let follows = i.follows(run.registers, held.value);
         match follows {
-            Follows::Done(registers) => self.at(Point::Read(run.onto(0, registers))),
-            Follows::Swap(new) => self.at(Point::Swap(run, held, new)),
+            Follows::Done(registers) => self.at(Point::Run(run.onto(0, registers), Stage::Read)),
+            Follows::Swap(new) => self.at(Point::Run(run, Stage::Swap(held, new))),
         }
     }
 
@@ -188,7 +192,7 @@ impl View {
         let w = self.word;
         let next = w.swap(entry, new);
         self.word = next;
-        self.at(Point::Read(run.onto(0, run.registers)))
+        self.at(Point::Run(run.onto(0, run.registers), Stage::Read))
     }
 
     // 6. The sheet is done.
@@ -196,7 +200,7 @@ impl View {
         ensures { λ r. ⌜ r ≡ markOf self run said ⌝ }
     {
         self.done = true;
-        self.at(Point::Release(run, said))
+        self.at(Point::Run(run, Stage::Release(said)))
     }
 
     // 7. The lock word is free again if that sheet still holds it as it won it. Finish: the own sheet ran; a helped one, not taken.
@@ -210,6 +214,19 @@ impl View {
         self.to(State::Finished(answer(run, k.own, said)))
     }
 
+    // One step of a run that is at this stage.
+    pub fn run_on(self, run: Run, at: Stage) -> View
+        ensures { λ r. ⌜ r ≡ runEffect at run self ⌝ }
+    {
+        match at {
+            Stage::Read => self.read(run),
+            Stage::Commit(read) => self.commit(run, read),
+            Stage::Swap(entry, new) => self.swap(run, entry, new),
+            Stage::Mark(said) => self.mark(run, said),
+            Stage::Release(said) => self.release(run, said),
+        }
+    }
+
     // One step of a worker that is at this point.
     pub fn step(self, p: Point) -> View
         ensures { λ r. ⌜ r ≡ effectOf p self ⌝ }
@@ -219,11 +236,7 @@ impl View {
             Point::Grab(seen) => self.grab(seen),
             Point::LookAgain(won) => self.look_again(won),
             Point::ReadMark(seen, won) => self.read_mark(seen, won),
-            Point::Read(run) => self.read(run),
-            Point::Commit(run, read) => self.commit(run, read),
-            Point::Swap(run, entry, new) => self.swap(run, entry, new),
-            Point::Mark(run, said) => self.mark(run, said),
-            Point::Release(run, said) => self.release(run, said),
+            Point::Run(run, at) => self.run_on(run, at),
         }
     }
 }

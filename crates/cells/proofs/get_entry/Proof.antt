@@ -23,4 +23,4 @@ get-entry-spec =
     (λ c. search needs)
     (λ c. search needs)
     (λ c κs. search needs)
-    (λ c. simp (c .slot-of .ensures) (sym (pieces-get entryPart _ _ _ (search needs)))))
+    (λ c. simp (c .fill-of .ensures) (sym (pieces-get entryPart _ _ _ (search needs)))))

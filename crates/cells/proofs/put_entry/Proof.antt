@@ -17,4 +17,4 @@ put-entry-spec =
     (λ c. search needs)
     (λ c κs. search needs)
     (λ c. search needs)
-    (λ c. puts-by entryPart withEntry unpack-entry _ _ _ _ _ (c .before .before .write .ensures) (c .before .before .before .before .before .slot-numbers .ensures) (search needs) (search needs) (entry-back _)))
+    (λ c. puts-by entryPart withEntry unpack-entry _ _ _ _ _ (c .before .before .write .ensures) (c .before .before .before .before .before .fill-numbers .ensures) (search needs) (search needs) (entry-back _)))

@@ -1,4 +1,4 @@
--- By what the callees ensure, as the slot is.
+-- By what the callees ensure, as the fill is.
 use borrow.Author.Needs.{needs}
 use Rattle.lent.proofs.Stepping.{committed-first, committed-before}
 use Rattle.lent.proofs.points.commit.Statement.{statement}
