@@ -1,3 +1,4 @@
 pub mod Carried
 pub mod Fits
 pub mod Shown
+pub mod Computed

@@ -1,59 +1,88 @@
 -- Any sequence of lent calls follows the history of the same calls on a state by value; so what is promised of histories is promised
--- of the numbers.
+-- of the numbers. A lent call is what its contract says of any numbers (door/specs/Calls.antt): nothing here is assumed of one.
 use Prim.Native.Nat.{ℕ, _≤_, _<_}
 use mathlib.Core.Path.{_≡_}
 use mathlib.Core.List.{List, [], _∷_}
 use lib.ListN.{length}
 use Rattle.cells.specs.Layout.{numbers, unpack, blanked}
-use Rattle.door.specs.Door.{unlessShort}
-use Rattle.engine.specs.Calls.{setupOf, beginOf, stepOf, collectOf, dropOf}
+use Rattle.door.specs.Calls.{setupReply, setupLeft, beginReply, beginLeft, stepReply, stepLeft, collectReply, collectLeft, dropReply, dropLeft, wordReply, lockReply, showReply, showBuffer, parkReply, parkBuffer}
+use Rattle.door.specs.Door.{shortReply, replyOf, noAnswer, collectedOf, noWord, wordOf, noLock, lockOf, noBytes, wroteOf}
+use Rattle.engine.specs.Calls.{setupOf, beginOf, stepOf, collectOf, dropOf, readWordOf, readLockOf, showOf, shownOf, parkOf, parkedOf}
 use Rattle.engine.specs.declared.CollectTold.{CollectTold}
 use Rattle.engine.specs.declared.Engine.{Engine}
 use Rattle.parts.specs.declared.Refusal.{Refusal}
 use Rattle.parts.specs.declared.Told.the-variants.{Refused}
-use Rattle.lent.specs.Calls.{stepNumbers, collectNumbers, dropNumbers}
-use Rattle.lent_in.specs.Calls.{setupNumbers, beginNumbers}
-use Rattle.promises.specs.History.{Call, Begin, Step, Collect, Drop, ReadWord, ReadLock, Show, Park, Past, sofar, Promised}
+use Rattle.promises.specs.History.{Call, Begin, Step, Collect, Drop, ReadWord, ReadLock, Show, Park, AllRecords, Past, afterAll, stateAfter, Demand3}
 
--- What the contract of a lent call says of the numbers s at its entry and s′ at its exit (door's `ensures`, line by line): s′ are these
--- numbers exactly; where s were enough for a state, s′ say this state; and a lent slice keeps its length.
-pub record Leaves (s s′ exact : List ℕ) (e : Engine) : Type 0 where
-  pub exactly : s′ ≡ unlessShort s s exact
-  pub state : numbers ≤ length s → unpack s′ ≡ e
-  pub size : length s′ ≡ length s
+-- the numbers after one lent call; the readers and the writers change none
+unfoldable pub lentAfter : List ℕ → Call → List ℕ
+lentAfter s (Begin w l rec) = beginLeft s w l rec
+lentAfter s (Step w) = stepLeft s w
+lentAfter s (Collect w) = collectLeft s w
+lentAfter s (Drop w) = dropLeft s w
+lentAfter s (ReadWord i) = s
+lentAfter s (ReadLock l) = s
+lentAfter s (Show sheet room) = s
+lentAfter s (Park room) = s
 
--- of each call; the readers and writers change no number
-abbrev pub Says : List ℕ → Call → List ℕ → Type 0
-Says s (Begin w l rec) s′ = Leaves s s′ (beginNumbers s w l rec) (beginOf (unpack s) w l rec .engine)
-Says s (Step w) s′ = Leaves s s′ (stepNumbers s w) (stepOf (unpack s) w .engine)
-Says s (Collect w) s′ = Leaves s s′ (collectNumbers s w) (collectOf (unpack s) w .engine)
-Says s (Drop w) s′ = Leaves s s′ (dropNumbers s w) (dropOf (unpack s) w .engine)
-Says s (ReadWord i) s′ = s′ ≡ s
-Says s (ReadLock l) s′ = s′ ≡ s
-Says s (Show sheet room) s′ = s′ ≡ s
-Says s (Park room) s′ = s′ ≡ s
+-- after lent calls, one after the other
+unfoldable pub lentAll : List ℕ → List Call → List ℕ
+lentAll s [] = s
+lentAll s (c ∷ cs) = lentAll (lentAfter s c) cs
 
--- lent calls, one after the other: the numbers s become s′
-abbrev pub Lent : List ℕ → List Call → List ℕ → Type 0
-Lent s [] s′ = s′ ≡ s
-Lent s (c ∷ cs) s′ = (m : List ℕ) × Says s c m × Lent m cs s′
+-- after a lent setup and the calls on what it left
+abbrev pub lentPast : List ℕ → Past → List ℕ
+lentPast s p = lentAll (setupLeft s (p .setup)) (p .calls)
+
+-- What the next call tells on the numbers s, whichever it is, and the buffer that it leaves, is what the call by value tells on the
+-- state e, in the fields of the C interface.
+pub record Tells (s : List ℕ) (e : Engine) : Type 0 where
+  pub setup : (rec : List ℕ) → setupReply s rec ≡ replyOf (setupOf rec .told)
+  pub begin : (w l : ℕ) (rec : List ℕ) → beginReply s w l rec ≡ replyOf (beginOf e w l rec .told)
+  pub step : (w : ℕ) → stepReply s w ≡ replyOf (stepOf e w .told)
+  pub collect : (w : ℕ) → collectReply s w ≡ collectedOf (collectOf e w .told)
+  pub drop : (w : ℕ) → dropReply s w ≡ replyOf (dropOf e w .told)
+  pub readWord : (i : ℕ) → wordReply s i ≡ wordOf (readWordOf e i)
+  pub readLock : (l : ℕ) → lockReply s l ≡ lockOf (readLockOf e l)
+  pub show : (sheet : ℕ) (buf : List ℕ) → showReply s sheet buf ≡ wroteOf (showOf e sheet (length buf))
+  pub shown : (sheet : ℕ) (buf : List ℕ) → showBuffer s sheet buf ≡ shownOf e sheet buf
+  pub park : (buf : List ℕ) → parkReply s buf ≡ wroteOf (parkOf e (length buf))
+  pub parked : (buf : List ℕ) → parkBuffer s buf ≡ parkedOf e buf
+
+-- "Fewer numbers than the layout has: refusal 22, place 0": whichever call it is, and it leaves the numbers and the buffer
+pub record Short (s : List ℕ) : Type 0 where
+  pub setup : (rec : List ℕ) → (setupReply s rec ≡ shortReply) × (setupLeft s rec ≡ s)
+  pub calls : (cs : List Call) → lentAll s cs ≡ s
+  pub begin : (w l : ℕ) (rec : List ℕ) → beginReply s w l rec ≡ shortReply
+  pub step : (w : ℕ) → stepReply s w ≡ shortReply
+  pub collect : (w : ℕ) → collectReply s w ≡ noAnswer shortReply
+  pub drop : (w : ℕ) → dropReply s w ≡ shortReply
+  pub readWord : (i : ℕ) → wordReply s i ≡ noWord shortReply
+  pub readLock : (l : ℕ) → lockReply s l ≡ noLock shortReply
+  pub show : (sheet : ℕ) (buf : List ℕ) → (showReply s sheet buf ≡ noBytes shortReply) × (showBuffer s sheet buf ≡ buf)
+  pub park : (buf : List ℕ) → (parkReply s buf ≡ noBytes shortReply) × (parkBuffer s buf ≡ buf)
 
 -- what lent calls come to
 pub record Carried : Type 0 where
-  -- demand 1: a refusal leaves every number as it was; of a setup, the blank state's. Which refusal is told, and when, is the call's by
-  -- value, and so is what is left in a buffer.
+  -- demand 1: a refusal leaves every number as it was; of a setup, the blank state's
   pub begin :
-      (s : List ℕ) (w l : ℕ) (rec : List ℕ) (r : Refusal) → beginOf (unpack s) w l rec .told ≡ Refused r → beginNumbers s w l rec ≡ s
-  pub step : (s : List ℕ) (w : ℕ) (r : Refusal) → stepOf (unpack s) w .told ≡ Refused r → stepNumbers s w ≡ s
+      (s : List ℕ) (w l : ℕ) (rec : List ℕ) (r : Refusal) → beginOf (unpack s) w l rec .told ≡ Refused r →
+      lentAfter s (Begin w l rec) ≡ s
+  pub step : (s : List ℕ) (w : ℕ) (r : Refusal) → stepOf (unpack s) w .told ≡ Refused r → lentAfter s (Step w) ≡ s
   pub collect :
-      (s : List ℕ) (w : ℕ) (r : Refusal) → collectOf (unpack s) w .told ≡ CollectTold.Refused r → collectNumbers s w ≡ s
-  pub drop : (s : List ℕ) (w : ℕ) (r : Refusal) → dropOf (unpack s) w .told ≡ Refused r → dropNumbers s w ≡ s
-  pub setup : (s rec : List ℕ) (r : Refusal) → setupOf rec .told ≡ Refused r → setupNumbers s rec ≡ blanked s
-  -- fewer numbers than a state takes: no call changes one
-  pub short : (s : List ℕ) (calls : List Call) (s′ : List ℕ) → length s < numbers → Lent s calls s′ → s′ ≡ s
-  -- From a lent setup through any lent calls: the numbers say the state that the calls by value give. What a lent call tells then, and
-  -- does, is said of that state (demands 1 and 2), and all that is promised of it and of what the history comes to holds (demand 3).
+      (s : List ℕ) (w : ℕ) (r : Refusal) → collectOf (unpack s) w .told ≡ CollectTold.Refused r → lentAfter s (Collect w) ≡ s
+  pub drop : (s : List ℕ) (w : ℕ) (r : Refusal) → dropOf (unpack s) w .told ≡ Refused r → lentAfter s (Drop w) ≡ s
+  pub setup :
+      (s rec : List ℕ) (r : Refusal) → numbers ≤ length s → setupOf rec .told ≡ Refused r → setupLeft s rec ≡ blanked s
+  pub short : (s : List ℕ) → length s < numbers → Short s
+  -- From any numbers, through any calls whose records are bytes: they say the state that the calls by value give, and there are as
+  -- many. Each call tells, on any numbers, what the call by value tells on the state that they say (demands 1 and 2).
+  pub follows :
+      (s : List ℕ) (cs : List Call) → numbers ≤ length s → AllRecords cs →
+      (unpack (lentAll s cs) ≡ afterAll (unpack s) cs) × (length (lentAll s cs) ≡ length s)
+  pub tells : (s : List ℕ) → numbers ≤ length s → Tells s (unpack s)
+  -- From a lent setup through any lent calls: the state that the numbers say is the state after the history, what the next call tells
+  -- is told of that state, and all that is promised of it and of what the history comes to holds (demand 3).
   pub carried :
-      (p : Past) (s₀ s s′ : List ℕ) → numbers ≤ length s₀ →
-      Leaves s₀ s (setupNumbers s₀ (p .setup)) (setupOf (p .setup) .engine) → Lent s (p .calls) s′ →
-      (unpack s′ ≡ sofar p .state) × Promised (setupOf (p .setup) .engine) (sofar p)
+      (s : List ℕ) (p : Past) → numbers ≤ length s →
+      (unpack (lentPast s p) ≡ stateAfter p) × Tells (lentPast s p) (stateAfter p) × Demand3 p

@@ -17,6 +17,10 @@ use Rattle.cells.specs.State.{withSizes, withLock, withWord, withSheet, 
 use Rattle.cells.proofs.Back.{byte-back, length-worker, length-entry}
 use Rattle.cells.proofs.Pieces.{Sound, pieces-length, pieces-set, reads-in, pieces-lay, pieces-out, pieces-zero, head-out}
 
+-- the numbers t, of which there are as many as of s, say the state e
+abbrev pub Says : List ℕ → List ℕ → Engine → Type 0
+Says s t e = (unpack t ≡ e) × (length t ≡ length s)
+
 -- writing a piece of the part p changes the state as w says
 abbrev pub Puts : {A : Type 0} → Part A → (Engine → ℕ → A → Engine) → Type 0
 Puts {A} p w =

@@ -3,11 +3,9 @@
 ghost use mathlib.Core.Path.{_≡_};
 ghost use Prim.Native.Nat.{_≤_};
 ghost use lib.ListN.{length};
-ghost use Rattle.engine.specs.Calls.{setupOf, beginOf, stepOf, collectOf, dropOf, readWordOf, readLockOf, showOf, shownOf, parkOf, parkedOf};
+ghost use Rattle.engine.specs.Calls.{setupOf, beginOf, stepOf, collectOf, dropOf};
 ghost use Rattle.cells.specs.Layout.{numbers, unpack};
-ghost use Rattle.lent.specs.Calls.{stepNumbers, collectNumbers, dropNumbers};
-ghost use Rattle.lent_in.specs.Calls.{setupNumbers, beginNumbers};
-ghost use Rattle.door.specs.Door.{unlessShort, shortReply, replyOf, noAnswer, collectedOf, noWord, wordOf, noLock, lockOf, noBytes, wroteOf};
+ghost use Rattle.door.specs.Calls.{setupReply, setupLeft, beginReply, beginLeft, stepReply, stepLeft, collectReply, collectLeft, dropReply, dropLeft, wordReply, lockReply, showReply, showBuffer, parkReply, parkBuffer};
 
 mod replies;
 
@@ -55,8 +53,8 @@ pub struct Wrote {
 // A fresh state from a setup record; a refused one gives the blank state. Refused: 22, 5, 6, 12.
 #[no_mangle]
 pub extern "C" fn chant_setup(state: &mut [u32], rec: &[u8]) -> Reply
-    ensures { λ r. ⌜ r ≡ unlessShort (now (state .entry)) shortReply (replyOf (setupOf (now (rec .entry)) .told)) ⌝ }
-    ensures { λ _. ⌜ now (state .exit) ≡ unlessShort (now (state .entry)) (now (state .entry)) (setupNumbers (now (state .entry)) (now (rec .entry))) ⌝ }
+    ensures { λ r. ⌜ r ≡ setupReply (now (state .entry)) (now (rec .entry)) ⌝ }
+    ensures { λ _. ⌜ now (state .exit) ≡ setupLeft (now (state .entry)) (now (rec .entry)) ⌝ }
     ensures { λ _. ⌜ (numbers ≤ length (now (state .entry)) → unpack (now (state .exit)) ≡ setupOf (now (rec .entry)) .engine) ⌝ }
 {
     if state.len() < NUMBERS {
@@ -69,8 +67,8 @@ pub extern "C" fn chant_setup(state: &mut [u32], rec: &[u8]) -> Reply
 // A worker takes a job for a lock. Refused: 22, 1, 3, 4, 2, 5, 6, 7, 8, 9, 10.
 #[no_mangle]
 pub extern "C" fn chant_begin(state: &mut [u32], worker: u32, lock: u32, rec: &[u8]) -> Reply
-    ensures { λ r. ⌜ r ≡ unlessShort (now (state .entry)) shortReply (replyOf (beginOf (unpack (now (state .entry))) worker lock (now (rec .entry)) .told)) ⌝ }
-    ensures { λ _. ⌜ now (state .exit) ≡ unlessShort (now (state .entry)) (now (state .entry)) (beginNumbers (now (state .entry)) worker lock (now (rec .entry))) ⌝ }
+    ensures { λ r. ⌜ r ≡ beginReply (now (state .entry)) worker lock (now (rec .entry)) ⌝ }
+    ensures { λ _. ⌜ now (state .exit) ≡ beginLeft (now (state .entry)) worker lock (now (rec .entry)) ⌝ }
     ensures { λ _. ⌜ (numbers ≤ length (now (state .entry)) → unpack (now (state .exit)) ≡ beginOf (unpack (now (state .entry))) worker lock (now (rec .entry)) .engine) ⌝ }
 {
     if state.len() < NUMBERS {
@@ -83,8 +81,8 @@ pub extern "C" fn chant_begin(state: &mut [u32], worker: u32, lock: u32, rec: &[
 // One step of a worker's try. Refused: 22, 1, 11, 4.
 #[no_mangle]
 pub extern "C" fn chant_step(state: &mut [u32], worker: u32) -> Reply
-    ensures { λ r. ⌜ r ≡ unlessShort (now (state .entry)) shortReply (replyOf (stepOf (unpack (now (state .entry))) worker .told)) ⌝ }
-    ensures { λ _. ⌜ now (state .exit) ≡ unlessShort (now (state .entry)) (now (state .entry)) (stepNumbers (now (state .entry)) worker) ⌝ }
+    ensures { λ r. ⌜ r ≡ stepReply (now (state .entry)) worker ⌝ }
+    ensures { λ _. ⌜ now (state .exit) ≡ stepLeft (now (state .entry)) worker ⌝ }
     ensures { λ _. ⌜ (numbers ≤ length (now (state .entry)) → unpack (now (state .exit)) ≡ stepOf (unpack (now (state .entry))) worker .engine) ⌝ }
 {
     if state.len() < NUMBERS {
@@ -97,8 +95,8 @@ pub extern "C" fn chant_step(state: &mut [u32], worker: u32) -> Reply
 // The answer of a finished worker and its steps; the worker is idle. Refused: 22, 1, 11, 3.
 #[no_mangle]
 pub extern "C" fn chant_collect(state: &mut [u32], worker: u32) -> Collected
-    ensures { λ r. ⌜ r ≡ unlessShort (now (state .entry)) (noAnswer shortReply) (collectedOf (collectOf (unpack (now (state .entry))) worker .told)) ⌝ }
-    ensures { λ _. ⌜ now (state .exit) ≡ unlessShort (now (state .entry)) (now (state .entry)) (collectNumbers (now (state .entry)) worker) ⌝ }
+    ensures { λ r. ⌜ r ≡ collectReply (now (state .entry)) worker ⌝ }
+    ensures { λ _. ⌜ now (state .exit) ≡ collectLeft (now (state .entry)) worker ⌝ }
     ensures { λ _. ⌜ (numbers ≤ length (now (state .entry)) → unpack (now (state .exit)) ≡ collectOf (unpack (now (state .entry))) worker .engine) ⌝ }
 {
     if state.len() < NUMBERS {
@@ -111,8 +109,8 @@ pub extern "C" fn chant_collect(state: &mut [u32], worker: u32) -> Collected
 // The worker is idle; a held lock stays held. Refused: 22, 1, 11.
 #[no_mangle]
 pub extern "C" fn chant_drop(state: &mut [u32], worker: u32) -> Reply
-    ensures { λ r. ⌜ r ≡ unlessShort (now (state .entry)) shortReply (replyOf (dropOf (unpack (now (state .entry))) worker .told)) ⌝ }
-    ensures { λ _. ⌜ now (state .exit) ≡ unlessShort (now (state .entry)) (now (state .entry)) (dropNumbers (now (state .entry)) worker) ⌝ }
+    ensures { λ r. ⌜ r ≡ dropReply (now (state .entry)) worker ⌝ }
+    ensures { λ _. ⌜ now (state .exit) ≡ dropLeft (now (state .entry)) worker ⌝ }
     ensures { λ _. ⌜ (numbers ≤ length (now (state .entry)) → unpack (now (state .exit)) ≡ dropOf (unpack (now (state .entry))) worker .engine) ⌝ }
 {
     if state.len() < NUMBERS {
@@ -125,7 +123,7 @@ pub extern "C" fn chant_drop(state: &mut [u32], worker: u32) -> Reply
 // A word's value, count and guard. Refused: 22, 16.
 #[no_mangle]
 pub extern "C" fn chant_read_word(state: &[u32], word: u32) -> WordRead
-    ensures { λ r. ⌜ r ≡ unlessShort (now (state .entry)) (noWord shortReply) (wordOf (readWordOf (unpack (now (state .entry))) word)) ⌝ }
+    ensures { λ r. ⌜ r ≡ wordReply (now (state .entry)) word ⌝ }
 {
     if state.len() < NUMBERS {
         return replies::no_word(replies::short());
@@ -137,7 +135,7 @@ pub extern "C" fn chant_read_word(state: &[u32], word: u32) -> WordRead
 // A lock's turn and the sheet that holds it, if any. Refused: 22, 2.
 #[no_mangle]
 pub extern "C" fn chant_read_lock(state: &[u32], lock: u32) -> LockRead
-    ensures { λ r. ⌜ r ≡ unlessShort (now (state .entry)) (noLock shortReply) (lockOf (readLockOf (unpack (now (state .entry))) lock)) ⌝ }
+    ensures { λ r. ⌜ r ≡ lockReply (now (state .entry)) lock ⌝ }
 {
     if state.len() < NUMBERS {
         return replies::no_lock(replies::short());
@@ -149,8 +147,8 @@ pub extern "C" fn chant_read_lock(state: &[u32], lock: u32) -> LockRead
 // The job record of a sheet in use. Refused: 22, 14, 13.
 #[no_mangle]
 pub extern "C" fn chant_show(state: &[u32], sheet: u32, buffer: &mut [u8]) -> Wrote
-    ensures { λ r. ⌜ r ≡ unlessShort (now (state .entry)) (noBytes shortReply) (wroteOf (showOf (unpack (now (state .entry))) sheet (length (now (buffer .entry))))) ⌝ }
-    ensures { λ _. ⌜ now (buffer .exit) ≡ unlessShort (now (state .entry)) (now (buffer .entry)) (shownOf (unpack (now (state .entry))) sheet (now (buffer .entry))) ⌝ }
+    ensures { λ r. ⌜ r ≡ showReply (now (state .entry)) sheet (now (buffer .entry)) ⌝ }
+    ensures { λ _. ⌜ now (buffer .exit) ≡ showBuffer (now (state .entry)) sheet (now (buffer .entry)) ⌝ }
 {
     if state.len() < NUMBERS {
         return replies::no_bytes(replies::short());
@@ -162,8 +160,8 @@ pub extern "C" fn chant_show(state: &[u32], sheet: u32, buffer: &mut [u8]) -> Wr
 // The setup record of the present values and turns. Refused: 22, 12, 15, 13.
 #[no_mangle]
 pub extern "C" fn chant_park(state: &[u32], buffer: &mut [u8]) -> Wrote
-    ensures { λ r. ⌜ r ≡ unlessShort (now (state .entry)) (noBytes shortReply) (wroteOf (parkOf (unpack (now (state .entry))) (length (now (buffer .entry))))) ⌝ }
-    ensures { λ _. ⌜ now (buffer .exit) ≡ unlessShort (now (state .entry)) (now (buffer .entry)) (parkedOf (unpack (now (state .entry))) (now (buffer .entry))) ⌝ }
+    ensures { λ r. ⌜ r ≡ parkReply (now (state .entry)) (now (buffer .entry)) ⌝ }
+    ensures { λ _. ⌜ now (buffer .exit) ≡ parkBuffer (now (state .entry)) (now (buffer .entry)) ⌝ }
 {
     if state.len() < NUMBERS {
         return replies::no_bytes(replies::short());

@@ -44,7 +44,7 @@ filled-by s t u v rec n b h w k =
     )
 
 -- what was written over the blank state is the fresh one
-fresh-is : (rec : List ℕ) → filledOf blankOf rec ≡ freshOf rec
+pub fresh-is : (rec : List ℕ) → filledOf blankOf rec ≡ freshOf rec
 unfolding filledOf freshOf blankOf
 fresh-is rec = refl
 

@@ -1,3 +1,4 @@
 pub mod Loops
 pub mod Filled
 pub mod Begins
+pub mod Says
