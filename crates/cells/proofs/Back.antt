@@ -31,7 +31,7 @@ use Rattle.cells.specs.Layout.{workerUsed}
 pub byte-back : (x : ℕ) → x < 256 → byteOf x ≡ x
 byte-back x h = omega arith
 
-flag-back : (b : Bool) → flagOf (flagNumber b) ≡ b
+pub flag-back : (b : Bool) → flagOf (flagNumber b) ≡ b
 flag-back true = refl
 flag-back false = refl
 
@@ -39,7 +39,7 @@ holder-back : (h : Holder) → HolderFits h → holderOf (holderNumber h) ≡ h
 holder-back Free o = refl
 holder-back (By s) o = simp (ne-eqb (s + 1) 0 (λ e. omega arith)) (ap By (omega arith))
 
-answer-back : (a : Answer) → answerOf (answerNumber a) ≡ a
+pub answer-back : (a : Answer) → answerOf (answerNumber a) ≡ a
 unfolding answerOf answerNumber
 answer-back RanYes = refl
 answer-back RanNo = refl

@@ -2,3 +2,4 @@ pub mod Pieces
 pub mod Back
 pub mod Unpack
 pub mod Laws
+pub mod Row

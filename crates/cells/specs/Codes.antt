@@ -99,22 +99,99 @@ entryOf l = record { fill = fillOf (getD l 0 0) (getD l 1 0) (getD l 2 0) }
 abbrev pub entryNumbers : Entry → List ℕ
 entryNumbers x = fillNumbers (x .fill)
 
--- A worker's numbers: tag, lock, own, steps, sheet, won, next, place, r0, r1, r2, r3, value, count, new
+-- A worker's tag: idle, at the point or stage of this name, finished
+abbrev pub idleTag : ℕ
+idleTag = 0
+
+abbrev pub lookTag : ℕ
+lookTag = 1
+
+abbrev pub grabTag : ℕ
+grabTag = 2
+
+abbrev pub lookAgainTag : ℕ
+lookAgainTag = 3
+
+abbrev pub readMarkTag : ℕ
+readMarkTag = 4
+
+abbrev pub readTag : ℕ
+readTag = 5
+
+abbrev pub commitTag : ℕ
+commitTag = 6
+
+abbrev pub swapTag : ℕ
+swapTag = 7
+
+abbrev pub markTag : ℕ
+markTag = 8
+
+abbrev pub releaseTag : ℕ
+releaseTag = 9
+
+abbrev pub finishedTag : ℕ
+finishedTag = 10
+
+-- Which of a worker's 15 numbers is which: the tag, the lock, the own sheet, the accepted steps; the sheet and the turn of a run (or
+-- the holder and Look's turn before it), its next instruction, log place and four registers; a value and a count read (or the turn
+-- seen); the word's new value (or what a halt said, or the answer)
+abbrev pub atTag : ℕ
+atTag = 0
+
+abbrev pub atLock : ℕ
+atLock = 1
+
+abbrev pub atOwn : ℕ
+atOwn = 2
+
+abbrev pub atSteps : ℕ
+atSteps = 3
+
+abbrev pub atSheet : ℕ
+atSheet = 4
+
+abbrev pub atWon : ℕ
+atWon = 5
+
+abbrev pub atNext : ℕ
+atNext = 6
+
+abbrev pub atPlace : ℕ
+atPlace = 7
+
+-- register i; any above 3 is the last
+unfoldable pub atRegister : ℕ → ℕ
+atRegister i = pick (eqb i 0) 8 (pick (eqb i 1) 9 (pick (eqb i 2) 10 11))
+
+abbrev pub atValue : ℕ
+atValue = 12
+
+abbrev pub atCount : ℕ
+atCount = 13
+
+abbrev pub atNew : ℕ
+atNew = 14
+
 abbrev pub registersOf : List ℕ → Registers
 registersOf l = record { r0 = getD l 8 0; r1 = getD l 9 0; r2 = getD l 10 0; r3 = getD l 11 0 }
 
 abbrev pub runOf : List ℕ → Run
 runOf l =
     record {
-      sheet = byteOf (getD l 4 0);
-      won = getD l 5 0;
-      next = byteOf (getD l 6 0);
-      place = byteOf (getD l 7 0);
+      sheet = byteOf (getD l atSheet 0);
+      won = getD l atWon 0;
+      next = byteOf (getD l atNext 0);
+      place = byteOf (getD l atPlace 0);
       registers = registersOf l;
     }
 
 abbrev pub readOf : List ℕ → Reading
-readOf l = record { value = getD l 12 0; count = getD l 13 0 }
+readOf l = record { value = getD l atValue 0; count = getD l atCount 0 }
+
+-- the lock word that Look again saw: its turn stands where a value does, its holder where a sheet does
+abbrev pub seenOf : List ℕ → LockWord
+seenOf l = lockWordOf (getD l atValue 0) (getD l atSheet 0)
 
 -- the answers' numbers; any other number says not taken
 unfoldable pub answerOf : ℕ → Answer
@@ -123,21 +200,26 @@ answerOf x = pick (eqb x 1) RanYes (pick (eqb x 2) RanNo NotTaken)
 -- by the tag; any other than 0 to 9 says finished
 unfoldable pub stateOf : List ℕ → State
 stateOf l =
-    pick (eqb (getD l 0 0) 0) Idle
-    (pick (eqb (getD l 0 0) 1) (UnderWay Look)
-    (pick (eqb (getD l 0 0) 2) (UnderWay (Grab (getD l 5 0)))
-    (pick (eqb (getD l 0 0) 3) (UnderWay (LookAgain (getD l 5 0)))
-    (pick (eqb (getD l 0 0) 4) (UnderWay (ReadMark (lockWordOf (getD l 12 0) (getD l 4 0)) (getD l 5 0)))
-    (pick (eqb (getD l 0 0) 5) (UnderWay (Point.Run (runOf l) Read))
-    (pick (eqb (getD l 0 0) 6) (UnderWay (Point.Run (runOf l) (Commit (readOf l))))
-    (pick (eqb (getD l 0 0) 7) (UnderWay (Point.Run (runOf l) (Swap (readOf l) (getD l 14 0))))
-    (pick (eqb (getD l 0 0) 8) (UnderWay (Point.Run (runOf l) (Mark (flagOf (getD l 14 0)))))
-    (pick (eqb (getD l 0 0) 9) (UnderWay (Point.Run (runOf l) (Release (flagOf (getD l 14 0)))))
-    (Finished (answerOf (getD l 14 0))))))))))))
+    pick (eqb (getD l atTag 0) idleTag) Idle
+    (pick (eqb (getD l atTag 0) lookTag) (UnderWay Look)
+    (pick (eqb (getD l atTag 0) grabTag) (UnderWay (Grab (getD l atWon 0)))
+    (pick (eqb (getD l atTag 0) lookAgainTag) (UnderWay (LookAgain (getD l atWon 0)))
+    (pick (eqb (getD l atTag 0) readMarkTag) (UnderWay (ReadMark (seenOf l) (getD l atWon 0)))
+    (pick (eqb (getD l atTag 0) readTag) (UnderWay (Point.Run (runOf l) Read))
+    (pick (eqb (getD l atTag 0) commitTag) (UnderWay (Point.Run (runOf l) (Commit (readOf l))))
+    (pick (eqb (getD l atTag 0) swapTag) (UnderWay (Point.Run (runOf l) (Swap (readOf l) (getD l atNew 0))))
+    (pick (eqb (getD l atTag 0) markTag) (UnderWay (Point.Run (runOf l) (Mark (flagOf (getD l atNew 0)))))
+    (pick (eqb (getD l atTag 0) releaseTag) (UnderWay (Point.Run (runOf l) (Release (flagOf (getD l atNew 0)))))
+    (Finished (answerOf (getD l atNew 0))))))))))))
 
 abbrev pub workerOf : List ℕ → Worker
 workerOf l =
-    record { state = stateOf l; lock = byteOf (getD l 1 0); own = byteOf (getD l 2 0); steps = getD l 3 0 }
+    record {
+      state = stateOf l;
+      lock = byteOf (getD l atLock 0);
+      own = byteOf (getD l atOwn 0);
+      steps = getD l atSteps 0;
+    }
 
 abbrev pub runNumbers : Worker → ℕ → Run → ℕ → ℕ → ℕ → List ℕ
 runNumbers k tag r value count new =
@@ -150,23 +232,23 @@ seenNumbers k tag sheet won value new =
     runNumbers k tag (record { sheet = sheet; won = won; next = 0; place = 0; registers = registers0 }) value 0 new
 
 abbrev pub stageNumbers : Stage → Run → Worker → List ℕ
-stageNumbers Read r k = runNumbers k 5 r 0 0 0
-stageNumbers (Commit x) r k = runNumbers k 6 r (x .value) (x .count) 0
-stageNumbers (Swap x new) r k = runNumbers k 7 r (x .value) (x .count) new
-stageNumbers (Mark b) r k = runNumbers k 8 r 0 0 (flagNumber b)
-stageNumbers (Release b) r k = runNumbers k 9 r 0 0 (flagNumber b)
+stageNumbers Read r k = runNumbers k readTag r 0 0 0
+stageNumbers (Commit x) r k = runNumbers k commitTag r (x .value) (x .count) 0
+stageNumbers (Swap x new) r k = runNumbers k swapTag r (x .value) (x .count) new
+stageNumbers (Mark b) r k = runNumbers k markTag r 0 0 (flagNumber b)
+stageNumbers (Release b) r k = runNumbers k releaseTag r 0 0 (flagNumber b)
 
 abbrev pub pointNumbers : Point → Worker → List ℕ
-pointNumbers Look k = seenNumbers k 1 0 0 0 0
-pointNumbers (Grab won) k = seenNumbers k 2 0 won 0 0
-pointNumbers (LookAgain won) k = seenNumbers k 3 0 won 0 0
-pointNumbers (ReadMark l won) k = seenNumbers k 4 (holderNumber (l .holder)) won (l .turn) 0
+pointNumbers Look k = seenNumbers k lookTag 0 0 0 0
+pointNumbers (Grab won) k = seenNumbers k grabTag 0 won 0 0
+pointNumbers (LookAgain won) k = seenNumbers k lookAgainTag 0 won 0 0
+pointNumbers (ReadMark l won) k = seenNumbers k readMarkTag (holderNumber (l .holder)) won (l .turn) 0
 pointNumbers (Point.Run r at) k = stageNumbers at r k
 
 abbrev pub stateNumbers : State → Worker → List ℕ
-stateNumbers Idle k = seenNumbers k 0 0 0 0 0
+stateNumbers Idle k = seenNumbers k idleTag 0 0 0 0
 stateNumbers (UnderWay p) k = pointNumbers p k
-stateNumbers (Finished a) k = seenNumbers k 10 0 0 0 (answerNumber a)
+stateNumbers (Finished a) k = seenNumbers k finishedTag 0 0 0 (answerNumber a)
 
 unfoldable pub workerNumbers : Worker → List ℕ
 workerNumbers k = stateNumbers (k .state) k

@@ -1,18 +1,20 @@
 -- Where the state stands in a list of numbers, the state that any such numbers say, and the numbers with one piece written.
 use Prim.Native.Nat.{ℕ, _+_, _*_}
 use mathlib.Core.List.{List, [], _∷_}
-use lib.ListN.{getD, replicate}
+use lib.ListN.{getD, set, replicate}
 use Rattle.parts.specs.Lay.{lay}
 use Rattle.parts.specs.Numbers.{workers, mostLocks, mostWords, sheets, entries}
 use Rattle.parts.specs.declared.Entry.{Entry}
 use Rattle.parts.specs.declared.Instr.{Instr}
 use Rattle.parts.specs.declared.LockWord.{LockWord}
+use Rattle.parts.specs.declared.Reading.{Reading}
 use Rattle.parts.specs.declared.Word.{Word}
+use Rattle.steps.specs.declared.Run.{Run}
 use Rattle.steps.specs.declared.Worker.{Worker}
 use Rattle.engine.specs.declared.Engine.{Engine}
 use Rattle.engine.specs.declared.Sheet.{Sheet}
-use Rattle.cells.specs.Codes.{byteOf, workerOf, workerNumbers, lockOf, lockNumbers, wordOf, wordNumbers, sheetOf, sheetNumbers, instrOf, instrNumbers, entryOf, entryNumbers}
-use Rattle.cells.specs.Pieces.{Part, piecesOf, putPiece}
+use Rattle.cells.specs.Codes.{byteOf, atTag, atLock, atOwn, atSteps, idleTag, runOf, readOf, seenOf, workerOf, workerNumbers, lockOf, lockNumbers, wordOf, wordNumbers, sheetOf, sheetNumbers, instrOf, instrNumbers, entryOf, entryNumbers}
+use Rattle.cells.specs.Pieces.{Part, reads, placeOf, piecesOf, putPiece}
 
 -- from one piece to the next; the head has L and W
 abbrev pub headWidth : ℕ
@@ -114,6 +116,31 @@ unpack s =
       entry = piecesOf entryPart s;
       worker = piecesOf workerPart s;
     }
+
+-- worker w's numbers, and number j of them
+abbrev pub rowOf : List ℕ → ℕ → List ℕ
+rowOf s w = reads s (placeOf workerPart w) 0 workerUsed
+
+unfoldable pub numberAt : List ℕ → ℕ → ℕ → ℕ
+numberAt s w j = getD s (placeOf workerPart w + j) 0
+
+-- what they say, whatever the tag: the run, the reading that it goes by, the lock word seen
+unfoldable pub runNow : List ℕ → ℕ → Run
+runNow s w = runOf (rowOf s w)
+
+unfoldable pub readNow : List ℕ → ℕ → Reading
+readNow s w = readOf (rowOf s w)
+
+unfoldable pub seenNow : List ℕ → ℕ → LockWord
+seenNow s w = seenOf (rowOf s w)
+
+-- all numbers with number j of worker w written
+unfoldable pub putNumber : List ℕ → ℕ → ℕ → ℕ → List ℕ
+putNumber s w j x = set s (placeOf workerPart w + j) x
+
+-- worker w idle, as at the start: no try, so no lock, no own sheet and no steps
+unfoldable pub putIdle : List ℕ → ℕ → List ℕ
+putIdle s w = putNumber (putNumber (putNumber (putNumber s w atTag idleTag) w atLock 0) w atOwn 0) w atSteps 0
 
 unfoldable pub putSizes : List ℕ → ℕ → ℕ → List ℕ
 putSizes s l w = lay 0 (l ∷ w ∷ []) s

@@ -4,25 +4,33 @@ ghost use mathlib.Core.Path.{_≡_};
 ghost use Prim.Native.Nat.{_≤_, _<_};
 ghost use lib.ListN.{length, getD};
 ghost use Rattle.parts.specs.Numbers.{workers, mostLocks, mostWords, sheets, entries};
-ghost use Rattle.parts.specs.Parts.{word0, lock0, instr0, entry0};
+ghost use Rattle.parts.specs.Parts.{word0, lock0, instr0, entry0, registerOf};
 ghost use Rattle.steps.specs.Worker.{worker0};
 ghost use Rattle.engine.specs.State.{sheet0, blankOf, lockCount, wordCount, withWorker};
-ghost use Rattle.cells.specs.Layout.{numbers, unpack, putSizes, putWorker, putLock, putWord, putSheet, putInstr, putEntry, blanked};
+ghost use Rattle.cells.specs.Codes.{atRegister};
+ghost use Rattle.cells.specs.Layout.{numbers, workerUsed, unpack, numberAt, runNow, readNow, seenNow, putNumber, putIdle, putSizes, putWorker, putLock, putWord, putSheet, putInstr, putEntry, blanked};
 ghost use Rattle.cells.specs.State.{withSizes, withLock, withWord, withSheet, withInstr, withEntry};
 
-mod codes;
-mod worker;
+pub mod codes;
+pub mod worker;
 
+use crate::worker::IDLE;
+use crate::worker::LOCK;
+use crate::worker::OWN;
+use crate::worker::STEPS;
+use crate::worker::TAG;
 use engine::Sheet;
 use parts::ENTRIES;
 use parts::Entry;
 use parts::Instr;
 use parts::LOCKS;
 use parts::LockWord;
+use parts::Reading;
 use parts::SHEETS;
 use parts::WORDS;
 use parts::WORKERS;
 use parts::Word;
+use steps::Run;
 use steps::Worker;
 
 // From one piece to the next; the head has L and W. Every width leaves room.
@@ -123,6 +131,71 @@ pub fn put_worker(s: &mut [u32], i: usize, k: Worker)
 {
     let n = worker::worker_numbers(k);
     codes::write(s, WORKER_BASE + i * WORKER_WIDTH, &n);
+}
+
+// Number j of worker w as it stands, and written.
+pub fn get_number(s: &[u32], w: usize, j: usize) -> u32
+    requires { ⌜ (numbers ≤ length (now s)) × (w < workers) × (j < workerUsed) ⌝ }
+    ensures { λ r. ⌜ r ≡ numberAt (now (s .entry)) w j ⌝ }
+{
+    s[WORKER_BASE + w * WORKER_WIDTH + j]
+}
+
+pub fn put_number(s: &mut [u32], w: usize, j: usize, x: u32)
+    requires { ⌜ (numbers ≤ length (now s)) × (w < workers) × (j < workerUsed) ⌝ }
+    ensures { λ _. ⌜ now (s .exit) ≡ putNumber (now (s .entry)) w j x ⌝ }
+{
+    s[WORKER_BASE + w * WORKER_WIDTH + j] = x;
+}
+
+// Worker w is idle.
+pub fn put_idle(s: &mut [u32], w: usize)
+    requires { ⌜ (numbers ≤ length (now s)) × (w < workers) ⌝ }
+    ensures { λ _. ⌜ now (s .exit) ≡ putIdle (now (s .entry)) w ⌝ }
+{
+    put_number(s, w, TAG, IDLE);
+    put_number(s, w, LOCK, 0);
+    put_number(s, w, OWN, 0);
+    put_number(s, w, STEPS, 0);
+}
+
+// Register i of worker w's run.
+pub fn get_register(s: &[u32], w: usize, i: u8) -> u32
+    requires { ⌜ (numbers ≤ length (now s)) × (w < workers) ⌝ }
+    ensures { λ r. ⌜ r ≡ registerOf (runNow (now (s .entry)) w .registers) i ⌝ }
+{
+    let j = worker::at_register(i);
+    get_number(s, w, j)
+}
+
+pub fn put_register(s: &mut [u32], w: usize, i: u8, x: u32)
+    requires { ⌜ (numbers ≤ length (now s)) × (w < workers) ⌝ }
+    ensures { λ _. ⌜ now (s .exit) ≡ putNumber (now (s .entry)) w (atRegister i) x ⌝ }
+{
+    let j = worker::at_register(i);
+    put_number(s, w, j, x);
+}
+
+// What worker w's numbers say of a run, of a reading and of a lock word seen, whatever the tag.
+pub fn get_run(s: &[u32], w: usize) -> Run
+    requires { ⌜ (numbers ≤ length (now s)) × (w < workers) ⌝ }
+    ensures { λ r. ⌜ r ≡ runNow (now (s .entry)) w ⌝ }
+{
+    worker::run_at(s, WORKER_BASE + w * WORKER_WIDTH)
+}
+
+pub fn get_reading(s: &[u32], w: usize) -> Reading
+    requires { ⌜ (numbers ≤ length (now s)) × (w < workers) ⌝ }
+    ensures { λ r. ⌜ r ≡ readNow (now (s .entry)) w ⌝ }
+{
+    worker::read_at(s, WORKER_BASE + w * WORKER_WIDTH)
+}
+
+pub fn get_seen(s: &[u32], w: usize) -> LockWord
+    requires { ⌜ (numbers ≤ length (now s)) × (w < workers) ⌝ }
+    ensures { λ r. ⌜ r ≡ seenNow (now (s .entry)) w ⌝ }
+{
+    worker::seen_at(s, WORKER_BASE + w * WORKER_WIDTH)
 }
 
 pub fn get_lock(s: &[u32], i: usize) -> LockWord

@@ -5,7 +5,8 @@ use mathlib.Core.List.{List}
 use lib.ListN.{length}
 use Rattle.cells.specs.Layout.{unpack}
 use Rattle.engine.specs.Calls.{setupOf, beginOf, stepOf, collectOf, dropOf, readWordOf, readLockOf, showOf, shownOf, parkOf, parkedOf}
-use Rattle.lent.specs.Calls.{stepNumbers, collectNumbers, dropNumbers}
+use Rattle.lent.specs.Calls.{collectNumbers, dropNumbers}
+use Rattle.lent_step.specs.Points.{stepNumbers}
 use Rattle.lent_in.specs.Calls.{setupNumbers, beginNumbers}
 use Rattle.door.specs.Door.{unlessShort, shortReply, replyOf, noAnswer, collectedOf, noWord, wordOf, noLock, lockOf, noBytes, wroteOf}
 use Rattle.door.specs.declared.Collected.{Collected}

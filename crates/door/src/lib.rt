@@ -88,7 +88,7 @@ pub extern "C" fn chant_step(state: &mut [u32], worker: u32) -> Reply
     if state.len() < NUMBERS {
         return replies::short();
     }
-    let told = lent::step::step(state, worker);
+    let told = lent_step::step(state, worker);
     replies::reply(told)
 }
 
@@ -102,7 +102,7 @@ pub extern "C" fn chant_collect(state: &mut [u32], worker: u32) -> Collected
     if state.len() < NUMBERS {
         return replies::no_answer(replies::short());
     }
-    let told = lent::read::collect(state, worker);
+    let told = lent::collect(state, worker);
     replies::collected(told)
 }
 
@@ -116,7 +116,7 @@ pub extern "C" fn chant_drop(state: &mut [u32], worker: u32) -> Reply
     if state.len() < NUMBERS {
         return replies::short();
     }
-    let told = lent::read::drop(state, worker);
+    let told = lent::drop(state, worker);
     replies::reply(told)
 }
 
@@ -128,7 +128,7 @@ pub extern "C" fn chant_read_word(state: &[u32], word: u32) -> WordRead
     if state.len() < NUMBERS {
         return replies::no_word(replies::short());
     }
-    let told = lent::read::read_word(state, word);
+    let told = lent::read_word(state, word);
     replies::word_read(told)
 }
 
@@ -140,7 +140,7 @@ pub extern "C" fn chant_read_lock(state: &[u32], lock: u32) -> LockRead
     if state.len() < NUMBERS {
         return replies::no_lock(replies::short());
     }
-    let told = lent::read::read_lock(state, lock);
+    let told = lent::read_lock(state, lock);
     replies::lock_read(told)
 }
 

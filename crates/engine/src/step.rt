@@ -2,7 +2,7 @@
 ghost use mathlib.Core.Path.{_≡_};
 ghost use Prim.Native.Nat.{_<_};
 ghost use Rattle.parts.specs.Numbers.{workers, entries};
-ghost use Rattle.engine.specs.Step.{instrAt, placedOf, placesOf, viewAt, putAt, steppedOf, Within};
+ghost use Rattle.engine.specs.Step.{instrAt, entryAt, placedOf, placesOf, viewAt, putAt, steppedOf, Within};
 ghost use Rattle.engine.specs.Calls.{stepOf};
 use crate::Engine;
 use crate::Outcome;
@@ -30,6 +30,14 @@ pub fn instr_at(spot: Spot) -> usize
     sheet * INSTRUCTIONS + (spot.next as usize) % INSTRUCTIONS
 }
 
+// Where its log entry stands.
+pub fn entry_at(spot: Spot) -> usize
+    ensures { λ r. ⌜ (r ≡ entryAt spot) × (r < entries) ⌝ }
+{
+    let sheet = (spot.sheet as usize) % SHEETS;
+    sheet * INSTRUCTIONS + (spot.place as usize) % INSTRUCTIONS
+}
+
 // Where the pieces of a step stand: of worker w, which is k, at this spot, whose instruction is i.
 pub fn placed(w: usize, k: Worker, spot: Spot, i: Instr) -> Places
     requires { ⌜ w < workers ⌝ }
@@ -37,12 +45,13 @@ pub fn placed(w: usize, k: Worker, spot: Spot, i: Instr) -> Places
 {
     let sheet = (spot.sheet as usize) % SHEETS;
     let instr = instr_at(spot);
+    let entry = entry_at(spot);
     let word = i.word();
     Places {
         worker: w,
         lock: (k.lock as usize) % LOCKS,
         word: (word as usize) % WORDS,
-        entry: sheet * INSTRUCTIONS + (spot.place as usize) % INSTRUCTIONS,
+        entry: entry,
         instr: instr,
         sheet: sheet,
     }

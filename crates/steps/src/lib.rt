@@ -4,7 +4,7 @@ ghost use mathlib.Core.Path.{_≡_};
 ghost use Rattle.steps.specs.Places.{runSpot, spotOf, helpedOf};
 ghost use Rattle.steps.specs.Worker.{worker0, beganOf, collectedOf, droppedOf, beginTold, movedOf};
 
-mod trying;
+pub mod trying;
 
 use parts::Answer;
 use parts::Entry;

@@ -1,0 +1,4 @@
+pub mod Seen
+pub mod Put
+pub mod Moved
+pub mod Says

@@ -1,0 +1,170 @@
+-- The numbers after a step, by the worker's tag: what each point looks at is read off the numbers, and what it changes is written.
+use Prim.Native.Nat.{ℕ, _+_, _-_, _*_, _%_, _^_}
+use mathlib.Core.Bool.{Bool, true, false}
+use mathlib.Core.List.{List}
+use lib.Dec.{eqb, leb}
+use lib.ListN.{getD}
+use Rattle.parts.specs.Instr.{overOf, wordOf}
+use Rattle.parts.specs.Numbers.{workers, mostLocks, mostWords, sheets, lastTurn}
+use Rattle.parts.specs.Parts.{next32, instr0, entry0, readingOf, registerOf, holdsOf, swapOf, grabOf, releaseOf}
+use Rattle.parts.specs.Pick.{pick, onHolder, onFill}
+use Rattle.parts.specs.declared.Answer.{Answer}
+use Rattle.parts.specs.declared.Answer.the-variants.{NotTaken}
+use Rattle.parts.specs.declared.Entry.{Entry}
+use Rattle.parts.specs.declared.Fill.the-variants.{Filled}
+use Rattle.parts.specs.declared.Instr.{Instr}
+use Rattle.parts.specs.declared.LockWord.{LockWord}
+use Rattle.parts.specs.declared.Reading.{Reading}
+use Rattle.parts.specs.declared.Registers.{Registers}
+use Rattle.parts.specs.declared.Word.{Word}
+use Rattle.steps.specs.Places.{runSpot}
+use Rattle.steps.specs.Try.{answerOf}
+use Rattle.engine.specs.State.{sheet0, workerAt, lockAt, wordAt}
+use Rattle.engine.specs.Step.{instrAt, entryAt}
+use Rattle.engine.specs.declared.Sheet.{Sheet}
+use Rattle.cells.specs.Codes.{flagOf, atTag, atWon, atNew, idleTag, lookTag, grabTag, lookAgainTag, readMarkTag, readTag, commitTag, swapTag, markTag, releaseTag}
+use Rattle.cells.specs.Layout.{unpack, numberAt, runNow, readNow, seenNow, putLock, putWord, putSheet, putEntry}
+use Rattle.lent_step.specs.Moves.{toGrab, toLookAgain, toReadMark, started, passed, went, halted, touched, logged, loaded, stored, toRelease, finished}
+
+-- What worker w looks at: its own sheet, where its lock stands and the lock word there, what its halt said; of its run, the registers,
+-- the instruction, that one's word, and the log entry
+abbrev pub ownNow : List ℕ → ℕ → ℕ
+ownNow s w = workerAt (unpack s) w .own
+
+abbrev pub lockPlace : List ℕ → ℕ → ℕ
+lockPlace s w = workerAt (unpack s) w .lock % mostLocks
+
+abbrev pub lockNow : List ℕ → ℕ → LockWord
+lockNow s w = lockAt (unpack s) (lockPlace s w)
+
+abbrev pub saidNow : List ℕ → ℕ → Bool
+saidNow s w = flagOf (numberAt s w atNew)
+
+abbrev pub registersNow : List ℕ → ℕ → Registers
+registersNow s w = runNow s w .registers
+
+unfoldable pub instrNow : List ℕ → ℕ → Instr
+instrNow s w = getD (unpack s .program) (instrAt (runSpot (runNow s w))) instr0
+
+abbrev pub wordPlace : Instr → ℕ
+wordPlace i = wordOf i % mostWords
+
+abbrev pub wordNow : List ℕ → Instr → Word
+wordNow s i = wordAt (unpack s) (wordPlace i)
+
+abbrev pub entryPlace : List ℕ → ℕ → ℕ
+entryPlace s w = entryAt (runSpot (runNow s w))
+
+abbrev pub entryNow : List ℕ → ℕ → Entry
+entryNow s w = getD (unpack s .entry) (entryPlace s w) entry0
+
+abbrev pub sheetNow : List ℕ → ℕ → Sheet
+sheetNow s i = getD (unpack s .sheet) (i % sheets) sheet0
+
+-- 1. Look, by the lock word that it finds
+unfoldable pub looked : List ℕ → ℕ → LockWord → List ℕ
+looked s w l =
+    onHolder (l .holder) (pick (eqb (l .turn) lastTurn) (finished s w NotTaken) (toGrab s w (l .turn)))
+    (λ sheet. started s w sheet (l .turn))
+
+unfoldable pub lookNumbers : List ℕ → ℕ → List ℕ
+lookNumbers s w = looked s w (lockNow s w)
+
+-- 2. Grab
+unfoldable pub grabNumbers : List ℕ → ℕ → List ℕ
+grabNumbers s w =
+    putLock (toLookAgain s w (next32 (numberAt s w atWon))) (lockPlace s w) (grabOf (lockNow s w) (numberAt s w atWon) (ownNow s w))
+
+-- 3. Look again
+unfoldable pub lookAgainNumbers : List ℕ → ℕ → List ℕ
+lookAgainNumbers s w = toReadMark s w (lockNow s w)
+
+-- 4. Read own done mark, by the mark and the lock word that Look again saw
+unfoldable pub ranOwn : List ℕ → ℕ → List ℕ
+ranOwn s w = started s w (ownNow s w) (numberAt s w atWon)
+
+-- not marked, by the own sheet
+unfoldable pub ranSeen : List ℕ → ℕ → LockWord → ℕ → List ℕ
+ranSeen s w l own =
+    onHolder (l .holder) (finished s w NotTaken) (λ sheet. pick (eqb sheet own) (ranOwn s w) (started s w sheet (l .turn)))
+
+unfoldable pub markRead : List ℕ → ℕ → Bool → LockWord → List ℕ
+markRead s w done l = pick done (ranOwn s w) (ranSeen s w l (ownNow s w))
+
+unfoldable pub readMarkNumbers : List ℕ → ℕ → List ℕ
+readMarkNumbers s w = markRead s w (sheetNow s (ownNow s w) .done) (seenNow s w)
+
+-- 5. Run: the first step of instruction i
+abbrev pub sumNow : List ℕ → ℕ → Instr → ℕ
+sumNow s w i = (registerOf (registersNow s w) (i .a) + registerOf (registersNow s w) (i .b)) % 2 ^ 32
+
+abbrev pub restNow : List ℕ → ℕ → Instr → ℕ
+restNow s w i = (registerOf (registersNow s w) (i .a) + 2 ^ 32 - registerOf (registersNow s w) (i .b)) % 2 ^ 32
+
+unfoldable pub firstNumbers : List ℕ → ℕ → Instr → List ℕ
+firstNumbers s w i =
+    pick (eqb (i .op) 0) (halted s w (eqb (i .a) 1))
+    (pick (eqb (i .op) 1) (went s w (i .a) (i .b + 256 * i .c))
+    (pick (eqb (i .op) 2) (touched s w (readingOf (wordNow s i)))
+    (pick (eqb (i .op) 3) (touched s w (readingOf (wordNow s i)))
+    (pick (eqb (i .op) 4) (touched s w (readingOf (wordNow s i)))
+    (pick (eqb (i .op) 5) (went s w (i .a) (sumNow s w i))
+    (pick (eqb (i .op) 6) (went s w (i .a) (restNow s w i))
+    (pick (eqb (i .op) 7) (passed s w (overOf i (registersNow s w))) (halted s w false))))))))
+
+unfoldable pub readNumbers : List ℕ → ℕ → List ℕ
+readNumbers s w = firstNumbers s w (instrNow s w)
+
+-- what follows of the value that the entry holds
+unfoldable pub followNumbers : List ℕ → ℕ → Instr → Reading → List ℕ
+followNumbers s w i held =
+    pick (eqb (i .op) 2) (loaded s w (i .a) (held .value))
+    (pick (eqb (i .op) 3) (stored s w held (registerOf (registersNow s w) (i .a)))
+    (pick (eqb (registerOf (registersNow s w) (i .a)) (held .value))
+    (stored s w held (registerOf (registersNow s w) (i .b))) (logged s w)))
+
+-- commit: an entry that is empty takes what was read; either way the worker goes on with what the entry holds
+unfoldable pub entryFilled : List ℕ → ℕ → Entry → Reading → List ℕ
+entryFilled s j e read = onFill (e .fill) (putEntry s j (record { fill = Filled read })) (λ held. s)
+
+unfoldable pub committed : List ℕ → ℕ → Instr → ℕ → Entry → List ℕ
+committed s w i j e = entryFilled (followNumbers s w i (holdsOf e (readNow s w))) j e (readNow s w)
+
+unfoldable pub commitNumbers : List ℕ → ℕ → List ℕ
+commitNumbers s w = committed s w (instrNow s w) (entryPlace s w) (entryNow s w)
+
+-- swap
+unfoldable pub swapNumbers : List ℕ → ℕ → List ℕ
+swapNumbers s w =
+    putWord (passed s w 0) (wordPlace (instrNow s w)) (swapOf (wordNow s (instrNow s w)) (readNow s w) (numberAt s w atNew))
+
+-- 6. Mark; the sheet's length stays
+unfoldable pub markNumbers : List ℕ → ℕ → List ℕ
+markNumbers s w =
+    putSheet (toRelease s w) (runNow s w .sheet % sheets) (record { length = sheetNow s (runNow s w .sheet) .length; done = true })
+
+-- 7. Release
+abbrev pub answerNow : List ℕ → ℕ → Answer
+answerNow s w = answerOf (runNow s w) (ownNow s w) (saidNow s w)
+
+unfoldable pub releaseNumbers : List ℕ → ℕ → List ℕ
+releaseNumbers s w =
+    putLock (finished s w (answerNow s w)) (lockPlace s w) (releaseOf (lockNow s w) (runNow s w .won) (runNow s w .sheet))
+
+-- a step of worker w, which has this tag; the last one where none of these is its tag
+unfoldable pub taggedNumbers : List ℕ → ℕ → ℕ → List ℕ
+taggedNumbers s w tag =
+    pick (eqb tag idleTag) s
+    (pick (eqb tag lookTag) (lookNumbers s w)
+    (pick (eqb tag grabTag) (grabNumbers s w)
+    (pick (eqb tag lookAgainTag) (lookAgainNumbers s w)
+    (pick (eqb tag readMarkTag) (readMarkNumbers s w)
+    (pick (eqb tag readTag) (readNumbers s w)
+    (pick (eqb tag commitTag) (commitNumbers s w)
+    (pick (eqb tag swapTag) (swapNumbers s w)
+    (pick (eqb tag markTag) (markNumbers s w)
+    (pick (eqb tag releaseTag) (releaseNumbers s w) s)))))))))
+
+-- the whole call: a worker above 7, an idle one and a finished one change nothing
+unfoldable pub stepNumbers : List ℕ → ℕ → List ℕ
+stepNumbers s w = pick (leb workers w) s (taggedNumbers s w (numberAt s w atTag))
