@@ -49,10 +49,18 @@ module _ (s : List ℕ) (w : ℕ) (b : w < workers) where
   unfolding stateOf numberAt
   tag-end tag e h =
       state-is ∙
-      simp
-      (no 0 (λ z. omega (arith, e)), no 1 (λ z. omega (arith, e)), no 2 (λ z. omega (arith, e)), no 3 (λ z. omega (arith, e)),
-      no 4 (λ z. omega (arith, e)), no 5 (λ z. omega (arith, e)), no 6 (λ z. omega (arith, e)), no 7 (λ z. omega (arith, e)),
-      no 8 (λ z. omega (arith, e)), no 9 (λ z. omega (arith, e)))
+      simp (
+        no 0 (λ z. omega (arith, e)),
+        no 1 (λ z. omega (arith, e)),
+        no 2 (λ z. omega (arith, e)),
+        no 3 (λ z. omega (arith, e)),
+        no 4 (λ z. omega (arith, e)),
+        no 5 (λ z. omega (arith, e)),
+        no 6 (λ z. omega (arith, e)),
+        no 7 (λ z. omega (arith, e)),
+        no 8 (λ z. omega (arith, e)),
+        no 9 (λ z. omega (arith, e)),
+      )
     where
       no : (k : ℕ) → (numberAt s w atTag ≡ k → ⊥) → eqb (numberAt s w atTag) k ≡ false
       no k h = ne-eqb (numberAt s w atTag) k h
