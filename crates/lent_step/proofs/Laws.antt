@@ -1,7 +1,8 @@
 -- The three parts of the call's contract: what it tells, by the tag; the numbers; and the state that they say, which follows of them.
-use Prim.Native.Nat.{ℕ, _<_, _≤_}
+use Prim.Native.Nat.{ℕ, zero, suc, _<_, _≤_}
 use mathlib.Core.List.{List}
-use mathlib.Core.Path.{_≡_, _∙_, ap}
+use mathlib.Core.Path.{_≡_, refl, _∙_, sym, ap}
+use native.Mathlib.Omega.{arith}
 use borrow.Author.Tests.{le-leb, lt-leb}
 use lib.ListN.{length}
 use Rattle.parts.specs.Numbers.{workers}
@@ -16,6 +17,24 @@ use Rattle.cells.specs.Layout.{numbers, unpack, numberAt}
 use Rattle.cells.proofs.Tags.{tag-idle, tag-way, tag-end}
 use Rattle.lent_step.specs.Points.{onwardNumbers, stepNumbers}
 use Rattle.lent_step.proofs.Says.{step-says}
+
+-- a tag that is none of those of a worker idle or under way
+pub beyond :
+    (n : ℕ) →
+    (n ≡ 0 → ⊥) → (n ≡ 1 → ⊥) → (n ≡ 2 → ⊥) → (n ≡ 3 → ⊥) → (n ≡ 4 → ⊥) →
+    (n ≡ 5 → ⊥) → (n ≡ 6 → ⊥) → (n ≡ 7 → ⊥) → (n ≡ 8 → ⊥) → (n ≡ 9 → ⊥) →
+    releaseTag < n
+beyond zero a₀ a₁ a₂ a₃ a₄ a₅ a₆ a₇ a₈ a₉ = absurd (a₀ refl)
+beyond (suc zero) a₀ a₁ a₂ a₃ a₄ a₅ a₆ a₇ a₈ a₉ = absurd (a₁ refl)
+beyond (suc (suc zero)) a₀ a₁ a₂ a₃ a₄ a₅ a₆ a₇ a₈ a₉ = absurd (a₂ refl)
+beyond (suc (suc (suc zero))) a₀ a₁ a₂ a₃ a₄ a₅ a₆ a₇ a₈ a₉ = absurd (a₃ refl)
+beyond (suc (suc (suc (suc zero)))) a₀ a₁ a₂ a₃ a₄ a₅ a₆ a₇ a₈ a₉ = absurd (a₄ refl)
+beyond (suc (suc (suc (suc (suc zero))))) a₀ a₁ a₂ a₃ a₄ a₅ a₆ a₇ a₈ a₉ = absurd (a₅ refl)
+beyond (suc (suc (suc (suc (suc (suc zero)))))) a₀ a₁ a₂ a₃ a₄ a₅ a₆ a₇ a₈ a₉ = absurd (a₆ refl)
+beyond (suc (suc (suc (suc (suc (suc (suc zero))))))) a₀ a₁ a₂ a₃ a₄ a₅ a₆ a₇ a₈ a₉ = absurd (a₇ refl)
+beyond (suc (suc (suc (suc (suc (suc (suc (suc zero)))))))) a₀ a₁ a₂ a₃ a₄ a₅ a₆ a₇ a₈ a₉ = absurd (a₈ refl)
+beyond (suc (suc (suc (suc (suc (suc (suc (suc (suc zero))))))))) a₀ a₁ a₂ a₃ a₄ a₅ a₆ a₇ a₈ a₉ = absurd (a₉ refl)
+beyond (suc (suc (suc (suc (suc (suc (suc (suc (suc (suc n)))))))))) a₀ a₁ a₂ a₃ a₄ a₅ a₆ a₇ a₈ a₉ = omega arith
 
 -- what the contract says of the numbers s, left as t, where r was told
 abbrev pub Steps : List ℕ → List ℕ → ℕ → Told → Type 0
@@ -40,11 +59,13 @@ module _ (s : List ℕ) (w : ℕ) (h : numbers ≤ length s) where
   unfolding worker.stepTold
   step-end tag b e q = step-refused NotCollected (simp (lt-leb workers w b, tag-end s w b tag e q))
 
-  pub step-done :
-      (t : List ℕ) (tag : ℕ) →
-      w < workers → tag ≡ numberAt s w atTag → (tag ≡ idleTag → ⊥) → tag ≤ releaseTag → t ≡ onwardNumbers s w tag →
-      Steps s t w Accepted
+  -- at the tag k of a worker under way
+  pub step-at :
+      (k : ℕ) (t : List ℕ) (r : Told) (tag : ℕ) →
+      w < workers → tag ≡ numberAt s w atTag → tag ≡ k → (k ≡ idleTag → ⊥) → k ≤ releaseTag →
+      (r ≡ Accepted) × (t ≡ onwardNumbers s w k) → Steps s t w r
   unfolding stepOf stepNumbers worker.stepTold
-  step-done t tag b e q u n =
-      let a : stepTold (unpack s) w ≡ Accepted = simp (lt-leb workers w b) (tag-way s w b _ _ _ tag e q u) in
-      stepped t _ (simp a) (simp a (n ∙ ap (λ (m : ℕ). onwardNumbers s w m) e))
+  step-at k t r tag b e q n u c =
+      let y : k ≡ numberAt s w atTag = sym q ∙ e in
+      let a : stepTold (unpack s) w ≡ Accepted = simp (lt-leb workers w b) (tag-way s w b _ _ _ k y n u) in
+      stepped t r (c .0 ∙ simp a) (simp a (c .1 ∙ ap (λ (m : ℕ). onwardNumbers s w m) y))
