@@ -111,9 +111,9 @@ Guards e₀ l q = (q < wordCount e₀) × (wordAt e₀ q .guard ≡ l)
 abbrev pub Hold : Engine → Engine → ℕ → List ℕ → Type 0
 Hold e₀ e l values = (q : ℕ) → Guards e₀ l q → wordAt e q .value ≡ getD values q 0
 
--- what the jobs of a list of tries give, from the setup's values
-abbrev pub given : Engine → List Try → List ℕ
-given e₀ tries = givesOf tries (valuesOf (wordsOf e₀))
+-- what the jobs of a list of tries give in the history that comes to x, from the setup's values
+abbrev pub given : Engine → Sofar → List Try → List ℕ
+given e₀ x tries = givesOf tries (valuesOf (wordsOf e₀))
 
 -- a lock that sheet s holds: the last try of its list, which stands first, has its program there; its words hold what all but the
 -- last give, then some first part of the last
@@ -123,7 +123,7 @@ pub record HeldWords (e₀ : Engine) (x : Sofar) (l s : ℕ) : Type 0 where
   pub list : x .won l ≡ last ∷ earlier
   pub sheet : programOf (x .state) s ≡ last .program
   pub k : ℕ
-  pub words : Hold e₀ (x .state) l (partOf k (last .program) (given e₀ earlier))
+  pub words : Hold e₀ (x .state) l (partOf k (last .program) (given e₀ x earlier))
 
 -- worker w begins on lock l and is stepped alone
 abbrev pub helped : Sofar → ℕ → ℕ → List ℕ → Engine
@@ -135,7 +135,7 @@ pub record Completed (e₀ : Engine) (x : Sofar) (w l : ℕ) (rec : List ℕ) : 
   pub begun : beginOf (x .state) w l rec .told ≡ Accepted
   pub answer : workerAt (helped x w l rec) w .state ≡ Finished NotTaken
   pub lock : lockAt (helped x w l rec) l ≡ record { turn = lockAt (x .state) l .turn; holder = Free }
-  pub words : Hold e₀ (helped x w l rec) l (given e₀ (x .won l))
+  pub words : Hold e₀ (helped x w l rec) l (given e₀ x (x .won l))
 
 -- try t stands in its lock's list, once, and in no other; alone, after those before it, its job answers this
 pub record RanOnce (e₀ : Engine) (x : Sofar) (t : Try) (said : Bool) : Type 0 where
@@ -144,7 +144,7 @@ pub record RanOnce (e₀ : Engine) (x : Sofar) (t : Try) (said : Bool) : Type 0 
   pub list : x .won (t .lock) ≡ later ++ (t ∷ earlier)
   pub once : times (t .number) (x .won (t .lock)) ≡ 1
   pub nowhere : (l : ℕ) → l ≢ t .lock → times (t .number) (x .won l) ≡ 0
-  pub answer : aloneOf (t .program) (given e₀ earlier) .yes ≡ said
+  pub answer : aloneOf (t .program) (given e₀ x earlier) .yes ≡ said
 
 -- a worker under way: its next step is accepted, and leads on or to an answer
 pub record GoesOn (e : Engine) (w : ℕ) : Type 0 where
@@ -198,7 +198,7 @@ pub record Uncut (e : Engine) : Type 0 where
 -- "Cut any sequence of calls anywhere, drops included:" what holds at the end of every history
 pub record Promised (e₀ : Engine) (x : Sofar) : Type 0 where
   -- "a free lock's words are what the jobs that won it give, run once each, alone, in order"
-  pub free : (l : ℕ) → lockAt (x .state) l .holder ≡ Free → Hold e₀ (x .state) l (given e₀ (x .won l))
+  pub free : (l : ℕ) → lockAt (x .state) l .holder ≡ Free → Hold e₀ (x .state) l (given e₀ x (x .won l))
   -- "a held lock's are all but the last, then some first part of the last"
   pub held : (l s : ℕ) → lockAt (x .state) l .holder ≡ By s → HeldWords e₀ x l s
   -- "which any other worker completes within 97 steps": every idle worker, with every job that is valid there

@@ -79,7 +79,7 @@ listed-once t earlier = rw (eq-eqb (t .number) (t .number) refl) (omega arith)
 
 -- at the end of a history
 module _ (e₀ : Engine) (u₀ : Under (rulesOf e₀) e₀) (x : Sofar) (s : Standing (rulesOf e₀) x) where
-  free-words : (l : ℕ) → lockAt (x .state) l .holder ≡ Free → Hold e₀ (x .state) l (given e₀ (x .won l))
+  free-words : (l : ℕ) → lockAt (x .state) l .holder ≡ Free → Hold e₀ (x .state) l (given e₀ x (x .won l))
   free-words l h q g =
       let o =
       subst (LockOk (rulesOf e₀) (sceneOf (x .state) .word) (taleOf x) (s .next .st) l (lockAt (x .state) l .turn)) h
