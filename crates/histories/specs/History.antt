@@ -33,7 +33,7 @@ use Rattle.engine.specs.State.{sheet0, lockCount, wordCount, workerAt, lockAt, 
 use Rattle.engine.specs.Calls.{setupOf, beginOf, stepOf, collectOf, dropOf}
 use Rattle.engine.specs.declared.CollectTold.{CollectTold}
 use Rattle.engine.specs.declared.Engine.{Engine}
-use Rattle.past.specs.Past.{Call, Begin, Step, Collect, Drop, ReadWord, ReadLock, Show, Park, afterAll, steps, AllRecords, Past, stateAfter}
+use Rattle.past.specs.Past.{Call, Begin, Step, Collect, Drop, ReadWord, ReadLock, Show, Park, steps, AllRecords, Past, stateAfter}
 
 -- 1. WHAT A HISTORY COMES TO: the state; how many begins were accepted; the try of each worker's last accepted begin, and the
 -- accepted steps of that worker since; the tries that won each lock, the latest first.
@@ -125,17 +125,17 @@ pub record HeldWords (e₀ : Engine) (x : Sofar) (l s : ℕ) : Type 0 where
   pub k : ℕ
   pub words : Hold e₀ (x .state) l (partOf k (last .program) (given e₀ x earlier))
 
--- worker w begins on lock l and is stepped alone
-abbrev pub helped : Sofar → ℕ → ℕ → List ℕ → Engine
-helped x w l rec = afterAll (x .state) (Begin w l rec ∷ steps (helpSteps instructions) w)
+-- worker w begins on lock l and is stepped alone: what the history comes to then
+abbrev pub helped : Sofar → ℕ → ℕ → List ℕ → Sofar
+helped x w l rec = follow x (Begin w l rec ∷ steps (helpSteps instructions) w)
 
 -- the begin is accepted; then the worker has finished, not taken, the lock is free at the same turn, and its words hold what all
 -- its jobs give
 pub record Completed (e₀ : Engine) (x : Sofar) (w l : ℕ) (rec : List ℕ) : Type 0 where
   pub begun : beginOf (x .state) w l rec .told ≡ Accepted
-  pub answer : workerAt (helped x w l rec) w .state ≡ Finished NotTaken
-  pub lock : lockAt (helped x w l rec) l ≡ record { turn = lockAt (x .state) l .turn; holder = Free }
-  pub words : Hold e₀ (helped x w l rec) l (given e₀ x (x .won l))
+  pub answer : workerAt (helped x w l rec .state) w .state ≡ Finished NotTaken
+  pub lock : lockAt (helped x w l rec .state) l ≡ record { turn = lockAt (x .state) l .turn; holder = Free }
+  pub words : Hold e₀ (helped x w l rec .state) l (given e₀ (helped x w l rec) (x .won l))
 
 -- try t stands in its lock's list, once, and in no other; alone, after those before it, its job answers this
 pub record RanOnce (e₀ : Engine) (x : Sofar) (t : Try) (said : Bool) : Type 0 where

@@ -28,8 +28,8 @@ use Rattle.helping.specs.Ok.{onward, aloneSteps}
 use Rattle.ranges.specs.Good.{Good}
 use Rattle.past.specs.Past as past
 use Rattle.histories.specs.History as history
-use Rattle.past.specs.Past.{Begin, Step, AllRecords, after, afterAll}
-use Rattle.histories.specs.History.{Sofar, thenOf}
+use Rattle.past.specs.Past.{Begin, Step, AllRecords, after}
+use Rattle.histories.specs.History.{Sofar, thenOf, follow}
 use Rattle.helping.proofs.Ranges.{ranged}
 use Rattle.helping.proofs.Begin.{begin-ok}
 use Rattle.helping.proofs.Help.{Completed, completes}
@@ -83,15 +83,12 @@ onward-is K x s w h = go (workerAt (x .state) w .state) refl
 -- n steps of a worker are the machine's n lone steps
 alone-is :
     (K : Rules) (x : Sofar) → Standing K x → (w : ℕ) → w < workers → (n : ℕ) →
-    sceneOf (afterAll (x .state) (past.steps n w)) ≡ aloneSteps K w n (sceneOf (x .state))
-unfolding afterAll aloneSteps AllRecords
+    sceneOf (follow x (past.steps n w) .state) ≡ aloneSteps K w n (sceneOf (x .state))
+unfolding follow aloneSteps AllRecords
 alone-is K x s w h zero = refl
 alone-is K x s w h (suc n) =
-    let y = thenOf x (Step w) in
-    let here = state-then x (Step w) in
-    ap (λ (e : Engine). sceneOf (afterAll e (past.steps n w))) (sym here) ∙
-    alone-is K y (standing-then K x (Step w) s tt) w h n ∙
-    ap (aloneSteps K w n) (ap sceneOf here ∙ onward-is K x s w h)
+    alone-is K (thenOf x (Step w)) (standing-then K x (Step w) s tt) w h n ∙
+    ap (aloneSteps K w n) (ap sceneOf (state-then x (Step w)) ∙ onward-is K x s w h)
 
 -- every idle worker may begin on a held lock, with every valid job
 may-begin :
@@ -118,17 +115,14 @@ told-accepted e w l rec b =
 -- the state after the begin and n steps, in the theory's words
 helped-is :
     (K : Rules) (x : Sofar) → Standing K x → (w l : ℕ) (rec : List ℕ) → AllBytes rec → Begins (x .state) w l rec → (n : ℕ) →
-    sceneOf (afterAll (x .state) (Begin w l rec ∷ past.steps n w)) ≡
+    sceneOf (follow x (Begin w l rec ∷ past.steps n w) .state) ≡
     aloneSteps K w n (begunOf (sceneOf (x .state)) w l (jobOf rec) (freeSheet (x .state)))
-unfolding afterAll after AllRecords
+unfolding follow after AllRecords
 helped-is K x s w l rec b t n =
-    let y = thenOf x (Begin w l rec) in
-    let here = state-then x (Begin w l rec) in
     let told = begin-told (x .state) w l rec Accepted (told-accepted (x .state) w l rec t) in
-    ap (λ (e : Engine). sceneOf (afterAll e (past.steps n w))) (sym here) ∙
-    alone-is K y (standing-then K x (Begin w l rec) s (b, tt)) w (t .worker) n ∙
+    alone-is K (thenOf x (Begin w l rec)) (standing-then K x (Begin w l rec) s (b, tt)) w (t .worker) n ∙
     ap (aloneSteps K w n)
-    (ap sceneOf here ∙ ap (λ (o : Outcome). sceneOf (o .engine)) told ∙ begin-is (x .state) (s .good) w l rec t)
+    (ap sceneOf (state-then x (Begin w l rec)) ∙ ap (λ (o : Outcome). sceneOf (o .engine)) told ∙ begin-is (x .state) (s .good) w l rec t)
 
 -- a worker that has just begun is to look at its lock
 looking : (E : Scene) (w l : ℕ) (code : List Instr) (s : ℕ) → begunOf E w l code s .worker w ≡ steps.lookingOf l s
