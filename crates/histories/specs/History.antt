@@ -33,6 +33,7 @@ use Rattle.engine.specs.State.{sheet0, lockCount, wordCount, workerAt, lockAt, 
 use Rattle.engine.specs.Calls.{setupOf, beginOf, stepOf, collectOf, dropOf}
 use Rattle.engine.specs.declared.CollectTold.{CollectTold}
 use Rattle.engine.specs.declared.Engine.{Engine}
+use Rattle.engine.specs.declared.Outcome.{Outcome}
 use Rattle.past.specs.Past.{Call, Begin, Step, Collect, Drop, ReadWord, ReadLock, Show, Park, steps, AllRecords, Past, stateAfter}
 
 -- 1. WHAT A HISTORY COMES TO: the state; how many begins were accepted; the try of each worker's last accepted begin, and the
@@ -54,11 +55,11 @@ start e =
       won = λ l. [];
     }
 
--- a begin that is accepted is the worker's try from now on; its number is how many went before it
-abbrev pub began : Sofar → ℕ → ℕ → List ℕ → Sofar
-began x w l rec =
+-- a begin that is accepted and gives state e is the worker's try from now on; its number is how many went before it
+abbrev pub began : Sofar → ℕ → ℕ → List ℕ → Engine → Sofar
+began x w l rec e =
     record {
-      state = beginOf (x .state) w l rec .engine;
+      state = e;
       begins = suc (x .begins);
       tries = λ v. pick (eqb v w) (record { number = x .begins; lock = l; program = jobOf rec }) (x .tries v);
       steps = λ v. pick (eqb v w) 0 (x .steps v);
@@ -70,9 +71,9 @@ began x w l rec =
 abbrev pub wonBy : LockWord → LockWord → Bool
 wonBy before now = onHolder (before .holder) (onHolder (now .holder) false (λ s. true)) (λ s. false)
 
-abbrev pub stepped : Sofar → ℕ → Sofar
-stepped x w =
-    let e = stepOf (x .state) w .engine in
+-- a step that is accepted and gives state e
+abbrev pub stepped : Sofar → ℕ → Engine → Sofar
+stepped x w e =
     record {
       state = e;
       begins = x .begins;
@@ -85,9 +86,13 @@ stepped x w =
 abbrev pub andNow : Sofar → Engine → Sofar
 andNow x e = record { state = e; begins = x .begins; tries = x .tries; steps = x .steps; won = x .won }
 
+-- an accepted call comes to this, by the state that it gave; a refused one to nothing new
+abbrev pub ifAccepted : Sofar → Outcome → (Engine → Sofar) → Sofar
+ifAccepted x o to = onTold (o .told) (to (o .engine)) (λ r. x)
+
 unfoldable pub thenOf : Sofar → Call → Sofar
-thenOf x (Begin w l rec) = onTold (beginOf (x .state) w l rec .told) (began x w l rec) (λ r. x)
-thenOf x (Step w) = onTold (stepOf (x .state) w .told) (stepped x w) (λ r. x)
+thenOf x (Begin w l rec) = ifAccepted x (beginOf (x .state) w l rec) (began x w l rec)
+thenOf x (Step w) = ifAccepted x (stepOf (x .state) w) (stepped x w)
 thenOf x (Collect w) = andNow x (collectOf (x .state) w .engine)
 thenOf x (Drop w) = andNow x (dropOf (x .state) w .engine)
 thenOf x (ReadWord i) = x

@@ -4,7 +4,6 @@ use mathlib.Core.Path.{_≡_, refl, sym, ap, _∙_, subst}
 use mathlib.Core.List.{List, _∷_}
 use Rattle.parts.specs.Numbers.{workers}
 use Rattle.parts.specs.Pick.{pick}
-use Rattle.parts.specs.Told.{onTold}
 use Rattle.parts.specs.declared.Instr.{Instr}
 use Rattle.parts.specs.declared.Told.{Told}
 use Rattle.parts.specs.declared.Told.the-variants.{Accepted, Refused}
@@ -16,7 +15,7 @@ use Rattle.steps.specs.declared.State.{State}
 use Rattle.steps.specs.declared.State.the-variants.{Idle, UnderWay}
 use Rattle.steps.specs.declared.Worker.{Worker}
 use Rattle.alone.specs.Jobs.{Try}
-use Rattle.engine.specs.State.{freeSheet, lockAt, workerAt, withWorker}
+use Rattle.engine.specs.State.{freeSheet, workerAt, withWorker}
 use Rattle.engine.specs.Step.{steppedOf}
 use Rattle.engine.specs.Calls.{beginTold, beginOf, stepTold, stepOf, collectTold, collectOf, dropTold, dropOf}
 use Rattle.engine.specs.declared.Collected.{Collected}
@@ -28,7 +27,7 @@ use Rattle.helping.specs.Ideal.{Fine}
 use Rattle.helping.specs.Ok.{Ranged}
 use Rattle.ranges.specs.Good.{Good}
 use Rattle.past.specs.Past.{Call, Begin, Step, Collect, Drop, ReadWord, ReadLock, Show, Park}
-use Rattle.histories.specs.History.{Sofar, began, wonBy, stepped, thenOf}
+use Rattle.histories.specs.History.{Sofar, began, wonBy, stepped, ifAccepted, thenOf}
 use Rattle.histories.proofs.map.Map.{sceneOf, taleOf, Under}
 use Rattle.histories.proofs.map.Steps.{step-is, begin-is, idle-is}
 use Rattle.histories.proofs.rules.Rules.{job-fine, free-unused}
@@ -49,51 +48,26 @@ pub data Simulated (K : Rules) (E : Scene) (T : Tale) (S : ℕ → ℕ) (E′ : 
 abbrev pub Sim : Rules → Sofar → Sofar → Type 0
 Sim K x y = Simulated K (sceneOf (x .state)) (taleOf x) (x .steps) (sceneOf (y .state)) (taleOf y) (y .steps)
 
--- the sofar after a call that told this and gave this state
-abbrev begunTo : Sofar → ℕ → ℕ → List ℕ → Outcome → Sofar
-begunTo x w l rec o =
-    onTold (o .told)
-    (record {
-      state = o .engine;
-      begins = suc (x .begins);
-      tries = began x w l rec .tries;
-      steps = began x w l rec .steps;
-      won = x .won;
-    })
-    (λ r. x)
-
-abbrev steppedTo : Sofar → ℕ → Outcome → Sofar
-steppedTo x w o =
-    onTold (o .told)
-    (record {
-      state = o .engine;
-      begins = x .begins;
-      tries = x .tries;
-      steps = stepped x w .steps;
-      won = λ l. pick (wonBy (lockAt (x .state) l) (lockAt (o .engine) l)) (x .tries w ∷ x .won l) (x .won l);
-    })
-    (λ r. x)
-
 -- a call on the state of x, by what it told
 module _ (K : Rules) (x : Sofar) (g : Good (x .state)) (u : Under K (x .state)) (r : Ranged K (sceneOf (x .state))) where
   begin-sim : (w l : ℕ) (rec : List ℕ) → Sim K x (thenOf x (Begin w l rec))
   unfolding thenOf
   begin-sim w l rec = go (beginTold (x .state) w l rec) refl
     where
-      go : (t : Told) → beginTold (x .state) w l rec ≡ t → Sim K x (begunTo x w l rec (beginOf (x .state) w l rec))
+      go : (t : Told) → beginTold (x .state) w l rec ≡ t → Sim K x (ifAccepted x (beginOf (x .state) w l rec) (began x w l rec))
       go Accepted e =
           let b = begins (x .state) w l rec e in
-          subst (λ (o : Outcome). Sim K x (begunTo x w l rec o)) (sym (begin-told (x .state) w l rec Accepted e))
+          subst (λ (o : Outcome). Sim K x (ifAccepted x o (began x w l rec))) (sym (begin-told (x .state) w l rec Accepted e))
           (begun w l (freeSheet (x .state)) (jobOf rec) (idle-of (workerAt (x .state) w) (b .idle))
           (free-unused (x .state) g (b .sheet)) (job-fine K (x .state) g u rec l (b .job))
           (begin-is (x .state) g w l rec b) refl refl)
       go (Refused q) e =
-          subst (λ (o : Outcome). Sim K x (begunTo x w l rec o)) (sym (begin-told (x .state) w l rec (Refused q) e))
+          subst (λ (o : Outcome). Sim K x (ifAccepted x o (began x w l rec))) (sym (begin-told (x .state) w l rec (Refused q) e))
           (unchanged refl refl refl)
 
   stepped-sim :
       (w : ℕ) (p : Point) → w < workers → workerAt (x .state) w .state ≡ UnderWay p →
-      Sim K x (steppedTo x w (record { engine = steppedOf (x .state) w p; told = Accepted }))
+      Sim K x (stepped x w (steppedOf (x .state) w p))
   stepped-sim w p h e =
       let E = sceneOf (x .state) in
       let to = step-is K (x .state) g u r w p h e in
@@ -113,11 +87,11 @@ module _ (K : Rules) (x : Sofar) (g : Good (x .state)) (u : Under K (x .state)) 
   unfolding thenOf
   step-sim w = go (stepTold (x .state) w) refl
     where
-      go : (t : Told) → stepTold (x .state) w ≡ t → Sim K x (steppedTo x w (stepOf (x .state) w))
+      go : (t : Told) → stepTold (x .state) w ≡ t → Sim K x (ifAccepted x (stepOf (x .state) w) (stepped x w))
       go Accepted e =
           let seat = one-of w (steps.stepTold (workerAt (x .state) w)) e in
           let at = point-of (workerAt (x .state) w) (seat .1) in
-          subst (λ (o : Outcome). Sim K x (steppedTo x w o))
+          subst (λ (o : Outcome). Sim K x (ifAccepted x o (stepped x w)))
           (sym
           (step-told (x .state) w Accepted e ∙
           ap
@@ -129,7 +103,7 @@ module _ (K : Rules) (x : Sofar) (g : Good (x .state)) (u : Under K (x .state)) 
           (at .1)))
           (stepped-sim w (at .0) (seat .0) (at .1))
       go (Refused q) e =
-          subst (λ (o : Outcome). Sim K x (steppedTo x w o)) (sym (step-told (x .state) w (Refused q) e)) (unchanged refl refl refl)
+          subst (λ (o : Outcome). Sim K x (ifAccepted x o (stepped x w))) (sym (step-told (x .state) w (Refused q) e)) (unchanged refl refl refl)
 
   -- collect and drop
   idle-sim :

@@ -13,7 +13,6 @@ use Rattle.steps.specs.declared.Point.{Point}
 use Rattle.steps.specs.declared.Point.the-variants.{Look, Grab, LookAgain, ReadMark}
 use Rattle.steps.specs.declared.Stage.the-variants.{Read, Commit, Swap, Mark, Release}
 use Rattle.steps.specs.declared.Worker.{Worker}
-use Rattle.engine.proofs.Begins.{begins}
 use Rattle.helping.specs.Machine.{Rules, Scene, Tale, put, grabOf, releaseOf, stepAt, stepTale, grabTale, winTale}
 use Rattle.histories.specs.History.{wonBy}
 
