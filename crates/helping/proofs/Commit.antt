@@ -1,5 +1,5 @@
 -- A commit fills the entry of its instruction, or finds it filled, with what the ideal run met there; a swap takes effect once.
-use Prim.Native.Nat.{ℕ, _≤_, _<_}
+use Prim.Native.Nat.{ℕ, suc, _≤_, _<_}
 use mathlib.Core.Path.{_≡_, refl, sym, ap, _∙_, subst}
 use mathlib.Core.Logic.{inr, ⊎-elim}
 use mathlib.Core.Bool.{Bool, true, false}
@@ -58,7 +58,7 @@ fills K J f n x u v t e q =
             words = v .words;
             past = λ j h k. put-other (x .log) i _ _ (omega (arith, place-up J j n k h)) ∙ v .past j h k;
             here = λ k. inr (now ∙ ap Filled right);
-            later = λ j h k. put-other (x .log) i _ _ (omega (arith, place-up J n j t h)) ∙ v .later j h k;
+            later = λ p h. put-other (x .log) i _ p (omega (arith, place-up J n (suc n) t (le-refl _))) ∙ v .later p h;
           };
       now = now;
       right = right;

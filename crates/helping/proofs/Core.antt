@@ -16,7 +16,7 @@ use Rattle.steps.specs.declared.Stage.the-variants.{Read, Commit, Swap, Mark, R
 use Rattle.helping.specs.Machine.{Rules, Shared, Pace, Act, fin, go, touch, target, put, ontoOf, loggedOf, heldOf, swapOf, readOf, followOf, commitOf, paceOf}
 use Rattle.helping.specs.Ideal.{Job, Ideal, raised, nextOf, idealOf, actIn, Touches, metIn, Follow, entryIn, Guarded, FineJob, Inv, At, In, Stands, Moved, Kept}
 use Rattle.helping.proofs.Put.{put-idle}
-use Rattle.helping.proofs.Run.{next-done, next-swap, swapped}
+use Rattle.helping.proofs.Run.{next-done, next-swap, swapped, places-up}
 use Rattle.helping.proofs.Inside.{touches, names-in, asks-same, go-on, done-on, swap-on, still-there}
 use Rattle.helping.proofs.Commit.{empty-here, Committed, logOf, commit, swap-first, swap-late}
 
@@ -33,8 +33,8 @@ push K J n x ws v e f =
           ⊎-elim
           (λ (z : j ≡ n). subst (λ (k : ℕ). Touches (actIn J k) → entryIn J x k ≡ Filled (metIn J k)) (sym z) f t)
           (λ (z : j < n). v .past j z t) (eq-or-lt-of-le {n = j} {m = n} (omega arith));
-      here = λ t. inl (v .later (suc n) (le-refl _) t);
-      later = λ j h t. v .later j (omega arith) t;
+      here = λ t. inl (v .later (idealOf J (suc n) .place) (le-refl _));
+      later = λ p h. v .later p (le-trans (places-up J (suc n) (suc (suc n)) (omega arith)) h);
     }
 
 -- the state stays, and so does the instruction

@@ -77,6 +77,9 @@ next-count q (touch w f) s =
 counts-up : (J : Job) (q j n : ℕ) → j ≤ n → idealOf J j .words q .count ≤ idealOf J n .words q .count
 counts-up J q = rise J (λ s. s .words q .count) (next-count q)
 
+pub places-up : (J : Job) (j n : ℕ) → j ≤ n → idealOf J j .place ≤ idealOf J n .place
+places-up J = rise J (λ s. s .place) next-place
+
 touch-place : (a : Act) (s : Ideal) → Touches a → nextOf a s .place ≡ suc (s .place)
 unfolding nextOf
 touch-place (fin said) s t = absurd t
@@ -87,7 +90,7 @@ touch-place (touch w f) s t =
 pub place-up : (J : Job) (j n : ℕ) → Touches (actIn J j) → j < n → idealOf J j .place < idealOf J n .place
 unfolding idealOf
 place-up J j n t h =
-    omega (arith, touch-place (actIn J j) (idealOf J j) t, rise J (λ s. s .place) next-place (suc j) n h)
+    omega (arith, touch-place (actIn J j) (idealOf J j) t, places-up J (suc j) n h)
 
 -- a swap that took effect raises the count for good
 pub swapped :

@@ -55,7 +55,7 @@ module _ (K : Rules) (v v′ : View) (lock lock′ : ℕ → LockWord) (s : ℕ)
                   subst (λ (x : Fill). (x ≡ Empty) ⊎ (x ≡ Filled (metIn J (v .st s .front))))
                   (sym (entry-spared J (v .st s .front)))
                   (q .2 .here m);
-              later = λ j h m. entry-spared J j ∙ q .2 .later j h m;
+              later = λ p h. ap (λ (f : ℕ → Fill). f p) (c .log) ∙ q .2 .later p h;
             }),
       )
   spared-at past e q =

@@ -94,12 +94,12 @@ abbrev pub FineJob : Rules → Job → Type 0
 FineJob K J = Fine K (J .lock) (J .code)
 
 -- The shared state at frontier n: the words are the ideal run's after n instructions; the entries before n are filled with what
--- it met; that of n is empty or so filled; those after n are empty.
+-- it met; that of n is empty or so filled; every place of the log after it is empty.
 pub record Inv (K : Rules) (J : Job) (n : ℕ) (x : Shared) : Type 0 where
   pub words : (q : ℕ) → Guarded K (J .lock) q → x .word q ≡ idealOf J n .words q
   pub past : (j : ℕ) → j < n → Touches (actIn J j) → entryIn J x j ≡ Filled (metIn J j)
   pub here : Touches (actIn J n) → (entryIn J x n ≡ Empty) ⊎ (entryIn J x n ≡ Filled (metIn J n))
-  pub later : (j : ℕ) → n < j → Touches (actIn J j) → entryIn J x j ≡ Empty
+  pub later : (p : ℕ) → idealOf J (suc n) .place ≤ p → x .log p ≡ Empty
 
 -- Of a sheet that let go of its lock: the log is complete up to a halt at n, and the counts of the lock's words are at least what
 -- the job left, so that every late swap fails.
