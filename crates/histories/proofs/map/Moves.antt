@@ -38,7 +38,7 @@ use Rattle.steps.specs.declared.State.{State}
 use Rattle.steps.specs.declared.State.the-variants.{UnderWay, Finished}
 use Rattle.steps.specs.declared.View.{View}
 use Rattle.steps.specs.declared.Worker.{Worker}
-use Rattle.helping.specs.Ideal.{Touches, farOf}
+use Rattle.helping.specs.Ideal.{Logs, Touches, farOf}
 use Rattle.helping.specs.Machine as machine
 use Rattle.helping.specs.Machine.{Shared, Act, fin, go, touch, actOf, target, put, heldOf, movedOf, ontoOf, loggedOf, pointOf, lookTo, markTo}
 
@@ -173,7 +173,7 @@ follow-is v x r held (follows.Swap new) h = refl
 
 pub commit-is :
     (v : View) (r : Run) (u : Reading) (x : Shared) →
-    Touches (actOf (v .instr) (r .registers)) →
+    Logs (actOf (v .instr) (r .registers)) →
     x .log (r .place) ≡ v .entry .fill →
     r .next + 1 < 2 ^ 8 →
     r .place + 1 < 2 ^ 8 →
@@ -190,13 +190,13 @@ commit-is v r u x t e h k =
     to : Fill → Point
     to z = pointOf (machine.followOf (followsOf (v .instr) (r .registers) (heldOf z u .value)) x (loggedOf r) (heldOf z u))
 
-    by : (a : Asks) → Touches (actBy (v .instr) (r .registers) a) → to (v .entry .fill) ≡ pointOf (machine.commitOf (actBy (v .instr) (r .registers) a) x r u)
+    by : (a : Asks) → Logs (actBy (v .instr) (r .registers) a) → to (v .entry .fill) ≡ pointOf (machine.commitOf (actBy (v .instr) (r .registers) a) x r u)
     by (Halt said) t = absurd t
     by (Go rs n) t = absurd t
     by (Touch w) t = ap to (sym e)
 
 pub commit-shares :
-    (a : Act) (x : Shared) (r : Run) (u : Reading) → Touches a →
+    (a : Act) (x : Shared) (r : Run) (u : Reading) → Logs a →
     machine.commitOf a x r u .shared ≡
     record { word = x .word; log = put (x .log) (r .place) (Filled (heldOf (x .log (r .place)) u)) }
 commit-shares (fin said) x r u t = absurd t

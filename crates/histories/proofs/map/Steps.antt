@@ -34,7 +34,7 @@ use Rattle.engine.specs.Calls.{Begins, takenOf}
 use Rattle.engine.specs.declared.Engine.{Engine}
 use Rattle.engine.specs.declared.Places.{Places}
 use Rattle.engine.specs.declared.Sheet.{Sheet}
-use Rattle.helping.specs.Ideal.{Touches}
+use Rattle.helping.specs.Ideal.{Logs, Touches}
 use Rattle.helping.specs.Machine as machine
 use Rattle.helping.specs.Machine.{Rules, Scene, Shared, Pace, put, actOf, target, heldOf, ontoOf, sharedOf, setShared, setLock, movedOf, onTo, lookTo, pointOf, paceOf, stepAt, begunOf, idledOf}
 use Rattle.helping.specs.Ok.{Ranged}
@@ -125,7 +125,7 @@ module _ (K : Rules) (e : Engine) (g : Good e) (u : Under K e) (r : Ranged K (sc
       let v = viewOf e w p in
       let x = sharedOf (sceneOf e) (c .sheet) in
       let act = actIn e w p c in
-      let t = subst (λ (n : Instr). Touches (actOf n (c .registers))) (a .instr) (i .1) in
+      let t = subst (λ (n : Instr). Logs (actOf n (c .registers))) (a .instr) (i .1) in
       let z = entry-is e w p (place-of p q) in
       let filled : committedOf (v .entry) y .fill ≡ Filled (heldOf (x .log (c .place)) y) =
       committed-is (v .entry) y ∙ ap (λ (s : Fill). Filled (heldOf s y)) (sym z) in
