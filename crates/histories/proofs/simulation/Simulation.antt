@@ -14,7 +14,6 @@ use Rattle.steps.specs.declared.Point.{Point}
 use Rattle.steps.specs.declared.State.{State}
 use Rattle.steps.specs.declared.State.the-variants.{Idle, UnderWay}
 use Rattle.steps.specs.declared.Worker.{Worker}
-use Rattle.alone.specs.Jobs.{Try}
 use Rattle.engine.specs.State.{freeSheet, workerAt, withWorker}
 use Rattle.engine.specs.Step.{steppedOf}
 use Rattle.engine.specs.Calls.{beginTold, beginOf, stepTold, stepOf, collectTold, collectOf, dropTold, dropOf}
@@ -22,7 +21,7 @@ use Rattle.engine.specs.declared.Collected.{Collected}
 use Rattle.engine.specs.declared.Engine.{Engine}
 use Rattle.engine.specs.declared.Outcome.{Outcome}
 use Rattle.engine.proofs.Begins.{begins}
-use Rattle.helping.specs.Machine.{Rules, Scene, Tale, put, stepAt, stepTale, Unused, begunOf, beginTale, idledOf}
+use Rattle.helping.specs.Machine.{Rules, Scene, Tale, put, stepAt, withWon, stepTale, Unused, begunOf, beginTale, idledOf}
 use Rattle.helping.specs.Ideal.{Fine}
 use Rattle.helping.specs.Ok.{Ranged}
 use Rattle.ranges.specs.Good.{Good}
@@ -75,11 +74,8 @@ module _ (K : Rules) (x : Sofar) (g : Good (x .state)) (u : Under K (x .state)) 
       moved w p e to
       (ap
       (λ (E′ : Scene).
-      record {
-        begins = x .begins;
-        tries = x .tries;
-        won = λ l. pick (wonBy (E .lock l) (E′ .lock l)) (x .tries w ∷ x .won l) (x .won l);
-      }) to ∙ ap (λ (f : ℕ → List Try). record { begins = x .begins; tries = x .tries; won = f }) won ∙
+      withWon (taleOf x) (λ l. pick (wonBy (E .lock l) (E′ .lock l)) (x .tries w ∷ x .won l) (x .won l))) to ∙
+      ap (withWon (taleOf x)) won ∙
       only-won (taleOf x) E w (workerAt (x .state) w) p)
       refl
 

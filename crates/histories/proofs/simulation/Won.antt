@@ -13,7 +13,7 @@ use Rattle.steps.specs.declared.Point.{Point}
 use Rattle.steps.specs.declared.Point.the-variants.{Look, Grab, LookAgain, ReadMark}
 use Rattle.steps.specs.declared.Stage.the-variants.{Read, Commit, Swap, Mark, Release}
 use Rattle.steps.specs.declared.Worker.{Worker}
-use Rattle.helping.specs.Machine.{Rules, Scene, Tale, put, grabOf, releaseOf, stepAt, stepTale, grabTale, winTale}
+use Rattle.helping.specs.Machine.{Rules, Scene, Tale, put, grabOf, releaseOf, stepAt, stepTale, grabTale, withWon, winTale}
 use Rattle.histories.specs.History.{wonBy}
 
 holds-still : (l : LockWord) → wonBy l l ≡ false
@@ -93,7 +93,7 @@ won-is K T E i k (Point.Run r (Release said)) =
 -- nothing else of the tale moves
 pub only-won :
     (T : Tale) (E : Scene) (i : ℕ) (k : Worker) (p : Point) →
-    record { begins = T .begins; tries = T .tries; won = stepTale T E i k p .won } ≡ stepTale T E i k p
+    withWon T (stepTale T E i k p .won) ≡ stepTale T E i k p
 unfolding stepTale grabTale
 only-won T E i k Look = refl
 only-won T E i k (Grab seen) = go (E .lock (k .lock) .holder) (eqb (E .lock (k .lock) .turn) seen)
@@ -101,7 +101,7 @@ only-won T E i k (Grab seen) = go (E .lock (k .lock) .holder) (eqb (E .lock (k .
     go :
         (h : Holder) (b : Bool) →
         let to = onHolder h (pick b (winTale T i (k .lock)) T) (λ s. T) in
-        record { begins = T .begins; tries = T .tries; won = to .won } ≡ to
+        withWon T (to .won) ≡ to
     go Free true = refl
     go Free false = refl
     go (By s) b = refl
