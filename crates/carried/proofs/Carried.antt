@@ -28,9 +28,9 @@ use Rattle.lent_in.specs.Calls.{setupNumbers, beginNumbers}
 use Rattle.lent_in.proofs.Says.{setup-says, begin-says}
 use Rattle.door.specs.Calls.{setupLeft}
 use Rattle.door.specs.Door.{unlessShort}
-use Rattle.promises.proofs.Accepted.{collectedTo}
-use Rattle.promises.specs.History.{Call, Begin, Step, Collect, Drop, ReadWord, ReadLock, Show, Park, AllRecords, Past, after, afterAll, stateAfter}
-use Rattle.promises.proofs.Demand.{demand-3}
+use Rattle.past.proofs.Accepted.{collectedTo}
+use Rattle.past.specs.Past.{Call, Begin, Step, Collect, Drop, ReadWord, ReadLock, Show, Park, AllRecords, Past, after, afterAll, stateAfter}
+use Rattle.histories.proofs.demand.Demand.{demand-3}
 use Rattle.carried.specs.Carried.{lentAfter, lentAll, lentPast, Tells, Short, Carried}
 
 -- enough numbers, and too few

@@ -21,8 +21,8 @@ use Rattle.steps.specs.Places.{helpedOf}
 use Rattle.steps.specs.Try as try
 use Rattle.steps.specs.Worker as worker
 use Rattle.engine.specs.Calls.{beginTold, collectOf, readLockOf, readWordOf}
-use Rattle.promises.specs.History.{Begin, steps}
-use Rattle.promises.specs.Table.{setupS, jobA, ranYes}
+use Rattle.past.specs.Past.{Begin, steps}
+use Rattle.tables.specs.Table.{setupS, jobA, ranYes}
 use Rattle.cells.specs.Codes.{atRegister, answerOf, stateOf, workerNumbers}
 use Rattle.cells.specs.Layout.{numbers, unpack, numberAt, runNow, readNow, seenNow, putNumber, putSizes, blanked}
 use Rattle.cells.specs.Pieces.{tab, piecesOf, putPiece}

@@ -1,0 +1,1 @@
+// The example table. No code.
