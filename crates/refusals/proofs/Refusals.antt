@@ -153,12 +153,3 @@ busy =
       underWay = λ e w l rec p h k. outcome-refusing e (beginTold e w l rec) _ WorkerUnderWay (simp (lt-leb workers w h, k));
       finished = λ e w l rec x h k. outcome-refusing e (beginTold e w l rec) _ NotCollected (simp (lt-leb workers w h, k));
     }
-
--- "An accepted begin, step or drop tells only that it was accepted": whatever is no refusal is that
-pub accepted-only : (told : Told) → ((r : Refusal) → told ≡ Refused r → ⊥) → told ≡ Accepted
-accepted-only Accepted h = refl
-accepted-only (Refused r) h = absurd (h r refl)
-
--- "two outcomes allowed by a contract are equal": each contract says that its outcome is f of the call's arguments
-pub one-answer : {A B : Type 0} (f : A → B) (x : A) (r q : B) → r ≡ f x → q ≡ f x → r ≡ q
-one-answer f x r q h k = h ∙ sym k
