@@ -1,5 +1,6 @@
 pub mod History
 pub mod Table
+pub mod Worked
 pub mod Rows
 pub mod Refusals
 pub mod Numbered
