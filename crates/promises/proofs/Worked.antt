@@ -6,7 +6,6 @@ use Rattle.parts.specs.Instr.{asksOf, followsOf, wordOf}
 use Rattle.parts.specs.Lay.{lay}
 use Rattle.parts.specs.Parts as parts
 use Rattle.parts.specs.Parts.{committedOf, holdsOf, registerOf, withRegister, wornOf}
-use Rattle.parts.specs.Told.{answerNumber}
 use Rattle.records.specs.Bytes.{u32sOf, u32sBytes}
 use Rattle.records.specs.Job.{badlyFormed, codeTold, instrTold, instrsOf, jobTold, straysAt}
 use Rattle.records.specs.Setup.{guardsTold, setupTold, turnsTold}
@@ -22,14 +21,14 @@ use Rattle.promises.specs.History.{after, afterAll}
 use Rattle.promises.specs.Worked.{setupV, jobMoves, jobSums, jobCams, jobSkips, freshV, Worked}
 
 pub worked : Worked
-unfolding wordsFrom asksOf followsOf wordOf lay parts.grabOf parts.releaseOf parts.swapOf committedOf holdsOf registerOf withRegister wornOf answerNumber u32sOf u32sBytes heldTold aloneFrom badlyFormed codeTold instrTold instrsOf jobTold straysAt guardsTold setupTold turnsTold anyOf inUseOf lowestOf helpedOf spotOf try.answerOf try.commitOf try.effectOf try.followOf try.grabOf try.lookAgainOf try.lookOf try.markOf try.readMarkOf try.readOf try.releaseOf try.swapOf worker.beganOf worker.beginTold worker.collectTold worker.collectedOf worker.stepTold beginOf beginTold begunOf collectOf freshOf parkOf parkTold parkedOf readLockOf readWordOf setupOf stepOf blankOf placesOf putAt viewAt after afterAll setupV jobMoves jobSums jobCams jobSkips freshV
+unfolding wordsFrom asksOf followsOf wordOf lay parts.grabOf parts.releaseOf parts.swapOf committedOf holdsOf registerOf withRegister wornOf u32sOf u32sBytes heldTold aloneFrom badlyFormed codeTold instrTold instrsOf jobTold straysAt guardsTold setupTold turnsTold anyOf inUseOf lowestOf helpedOf spotOf try.answerOf try.commitOf try.effectOf try.followOf try.grabOf try.lookAgainOf try.lookOf try.markOf try.readMarkOf try.readOf try.releaseOf try.swapOf worker.beganOf worker.beginTold worker.collectTold worker.collectedOf worker.stepTold beginOf beginTold begunOf collectOf freshOf parkOf parkTold parkedOf readLockOf readWordOf setupOf stepOf blankOf placesOf putAt viewAt after afterAll setupV jobMoves jobSums jobCams jobSkips freshV
 worked =
     record {
       setup = refl;
       fresh = record { word = refl; lock = refl };
-      moves = record { before = refl; told = (refl, refl); left = record { word = refl; lock = refl }; alone = refl };
-      sums = record { before = refl; told = (refl, refl); left = record { word = refl; lock = refl }; alone = refl };
-      cams = record { before = refl; told = (refl, refl); left = record { word = refl; lock = refl }; alone = refl };
-      skips = record { before = refl; told = (refl, refl); left = record { word = refl; lock = refl }; alone = refl };
+      moves = record { before = refl; told = refl; left = record { word = refl; lock = refl }; alone = refl };
+      sums = record { before = refl; told = refl; left = record { word = refl; lock = refl }; alone = refl };
+      cams = record { before = refl; told = refl; left = record { word = refl; lock = refl }; alone = refl };
+      skips = record { before = refl; told = refl; left = record { word = refl; lock = refl }; alone = refl };
       parked = (refl, refl);
     }

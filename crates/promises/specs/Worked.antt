@@ -4,22 +4,24 @@
 use Prim.Native.Nat.{ℕ, _-_}
 use mathlib.Core.Path.{_≡_}
 use mathlib.Core.Bool.{Bool, true, false}
-use mathlib.Core.List.{List, [], _∷_, _++_, map}
+use mathlib.Core.List.{List, [], _∷_, map}
 use lib.ListN.{replicate}
 use Rattle.arrays.specs.Fresh.{valuesOf}
 use Rattle.parts.specs.Pick.{pick}
+use Rattle.parts.specs.declared.Answer.the-variants.{RanYes, RanNo}
 use Rattle.parts.specs.declared.Holder.the-variants.{Free}
 use Rattle.parts.specs.declared.Told.the-variants.{Accepted}
 use Rattle.parts.specs.declared.Word.{Word}
 use Rattle.records.specs.Job.{jobOf}
 use Rattle.alone.specs.Alone.{aloneOf, leftOf}
 use Rattle.engine.specs.Calls.{setupOf, collectOf, readWordOf, readLockOf, parkOf, parkedOf}
+use Rattle.engine.specs.declared.CollectTold.{CollectTold}
 use Rattle.engine.specs.declared.Engine.{Engine}
 use Rattle.engine.specs.declared.LockTold.{LockTold}
 use Rattle.engine.specs.declared.WordTold.{WordTold}
 use Rattle.engine.specs.declared.WriteTold.{WriteTold}
 use Rattle.promises.specs.History.{Begin, afterAll, steps}
-use Rattle.promises.specs.Table.{Answers, StillUnderWay, ranYes, ranNo}
+use Rattle.promises.specs.Table.{StillUnderWay}
 
 -- One lock at turn 0x01020304, and five words under it, 0x44332211, 0xFEDCBA98, 5, 9 and 7; "Little-endian": the four bytes of the first
 -- two values and of the turn all differ.
@@ -86,63 +88,36 @@ pub record Reads (e : Engine) (words : List Word) (turn : ℕ) : Type 0 where
   pub word : map (readWordOf e) (0 ∷ 1 ∷ 2 ∷ 3 ∷ 4 ∷ []) ≡ map WordTold.Is words
   pub lock : readLockOf e 0 ≡ LockTold.Is (record { turn = turn; holder = Free })
 
--- how a job ends: its answer, yes or no; the steps; the instructions executed; the words
-pub record Ended : Type 0 where
-  pub yes : Bool
-  pub steps : ℕ
-  pub executed : ℕ
-  pub words : List Word
-
--- so it ends on V, stepped, and not a step earlier; and so it ends alone, on V's values
-pub record Works (job : List ℕ) (o : Ended) : Type 0 where
-  pub before : StillUnderWay (collectOf (ranOn job (o .steps - 1)) 0 .told)
-  pub told : Answers (collectOf (ranOn job (o .steps)) 0 .told) (pick (o .yes) ranYes ranNo) (o .steps)
-  pub left : Reads (ranOn job (o .steps)) (o .words) 0x01020305
+-- stepped on V the job ends with this answer, yes or no, after so many steps and not one earlier, and leaves these words; and alone, on
+-- V's values, it gives the same, so many instructions executed
+pub record Works (job : List ℕ) (yes : Bool) (stepped executed : ℕ) (words : List Word) : Type 0 where
+  pub before : StillUnderWay (collectOf (ranOn job (stepped - 1)) 0 .told)
+  pub told : collectOf (ranOn job stepped) 0 .told ≡ CollectTold.Answered (pick yes RanYes RanNo) stepped
+  pub left : Reads (ranOn job stepped) words 0x01020305
   pub alone :
-      aloneOf (jobOf job) (0x44332211 ∷ 0xFEDCBA98 ∷ 5 ∷ 9 ∷ 7 ∷ []) ≡
-      leftOf (o .yes) (o .executed) (valuesOf (o .words))
+      aloneOf (jobOf job) (0x44332211 ∷ 0xFEDCBA98 ∷ 5 ∷ 9 ∷ 7 ∷ []) ≡ leftOf yes executed (valuesOf words)
 
 -- Steps: 4 before the run and 2 after it; in it 3 for a store and for a cam that swaps, 2 for a load and for one that doesn't, 1 for any
 -- other. Counts: one more for each store or swap.
 pub record Worked : Type 0 where
   pub setup : setupOf setupV .told ≡ Accepted
   pub fresh : Reads freshV (at 0x44332211 0 ∷ at 0xFEDCBA98 0 ∷ at 5 0 ∷ at 9 0 ∷ at 7 0 ∷ []) 0x01020304
-  -- "set: register a becomes b + 256c", "load: register a becomes word b", "store: word b becomes register a", "halt: .. no (a = 0)"
+  -- set: "register a becomes b + 256c"; load: "register a becomes word b"; store: "word b becomes register a"; halt: "no (a = 0)"
   pub moves :
-      Works jobMoves
-      (record {
-        yes = false;
-        steps = 25;
-        executed = 9;
-        words = at 0x44332211 0 ∷ at 0x0201 1 ∷ at 0x0403 1 ∷ at 0x44332211 1 ∷ at 0xFEDCBA98 1 ∷ [];
-      })
-  -- "add, sub: register a plus or minus register b, modulo 2 to the 32nd", "halt: .. yes (a = 1)"
+      Works jobMoves false 25 9
+      (at 0x44332211 0 ∷ at 0x0201 1 ∷ at 0x0403 1 ∷ at 0x44332211 1 ∷ at 0xFEDCBA98 1 ∷ [])
+  -- add and sub: "register a plus or minus register b, modulo 2 to the 32nd"; halt: "yes (a = 1)"
   pub sums :
-      Works jobSums
-      (record {
-        yes = true;
-        steps = 34;
-        executed = 14;
-        words = at 0x430FDCA9 1 ∷ at 0xFEDCBA98 1 ∷ at 0x45566779 1 ∷ at 0x88664422 1 ∷ at 0xBBCCDDEF 1 ∷ [];
-      })
-  -- "cam: if word c equals register a it becomes register b"
+      Works jobSums true 34 14
+      (at 0x430FDCA9 1 ∷ at 0xFEDCBA98 1 ∷ at 0x45566779 1 ∷ at 0x88664422 1 ∷ at 0xBBCCDDEF 1 ∷ [])
+  -- cam: "if word c equals register a it becomes register b"
   pub cams :
-      Works jobCams
-      (record {
-        yes = true;
-        steps = 19;
-        executed = 8;
-        words = at 0x44332211 0 ∷ at 0xFEDCBA98 0 ∷ at 9 1 ∷ at 9 0 ∷ at 8 1 ∷ [];
-      })
-  -- "skip: if registers a and b are equal, pass over the next c instructions"
+      Works jobCams true 19 8
+      (at 0x44332211 0 ∷ at 0xFEDCBA98 0 ∷ at 9 1 ∷ at 9 0 ∷ at 8 1 ∷ [])
+  -- skip: "if registers a and b are equal, pass over the next c instructions"
   pub skips :
-      Works jobSkips
-      (record {
-        yes = false;
-        steps = 22;
-        executed = 10;
-        words = at 0x44332211 0 ∷ at 6 1 ∷ at 6 1 ∷ at 9 0 ∷ at 6 1 ∷ [];
-      })
+      Works jobSkips false 22 10
+      (at 0x44332211 0 ∷ at 6 1 ∷ at 6 1 ∷ at 9 0 ∷ at 6 1 ∷ [])
   -- "Park writes the setup record of the present values and turns": after jobSums, into 36 bytes, of which the last stays
   pub parked :
       (parkOf (ranOn jobSums 34) 36 ≡ WriteTold.Wrote 35) ×
