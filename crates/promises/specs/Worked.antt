@@ -13,7 +13,7 @@ use Rattle.parts.specs.declared.Holder.the-variants.{Free}
 use Rattle.parts.specs.declared.Told.the-variants.{Accepted}
 use Rattle.parts.specs.declared.Word.{Word}
 use Rattle.records.specs.Job.{jobOf}
-use Rattle.alone.specs.Alone.{aloneOf, leftOf}
+use Rattle.alone.specs.Alone.{aloneOf}
 use Rattle.engine.specs.Calls.{setupOf, collectOf, readWordOf, readLockOf, parkOf, parkedOf}
 use Rattle.engine.specs.declared.CollectTold.{CollectTold}
 use Rattle.engine.specs.declared.Engine.{Engine}
@@ -95,7 +95,8 @@ pub record Works (job : List ℕ) (yes : Bool) (stepped executed : ℕ) (words :
   pub told : collectOf (ranOn job stepped) 0 .told ≡ CollectTold.Answered (pick yes RanYes RanNo) stepped
   pub left : Reads (ranOn job stepped) words 0x01020305
   pub alone :
-      aloneOf (jobOf job) (0x44332211 ∷ 0xFEDCBA98 ∷ 5 ∷ 9 ∷ 7 ∷ []) ≡ leftOf yes executed (valuesOf words)
+      aloneOf (jobOf job) (0x44332211 ∷ 0xFEDCBA98 ∷ 5 ∷ 9 ∷ 7 ∷ []) ≡
+      record { yes = yes; executed = executed; words = valuesOf words }
 
 -- Steps: 4 before the run and 2 after it; in it 3 for a store and for a cam that swaps, 2 for a load and for one that doesn't, 1 for any
 -- other. Counts: one more for each store or swap.
