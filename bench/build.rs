@@ -1,6 +1,7 @@
-//! Finds out whether the by-value step can be timed. It can't be exported as
-//! it is, since an exported function may hold no enum. What the benchmark
-//! calls, where it is there, is
+//! Compiles plain.c, with the C compiler that the environment variable CC
+//! names, or else cc; and finds out whether the by-value step can be timed.
+//! That can't be exported as it is, since an exported function may hold no
+//! enum. What the benchmark calls, where it is there, is
 //!
 //!     uint32_t by_value_steps(const uint8_t *setup, size_t setup_length,
 //!                             const uint8_t *job, size_t job_length,
@@ -15,10 +16,14 @@
 //! target/staticlib/libby_value.a. Where it is in neither, the table has no
 //! column for it.
 
+use std::ffi::OsString;
 use std::path::{Path, PathBuf};
+use std::process::Command;
 use std::{env, fs};
 
 const NAME: &[u8] = b"by_value_steps\0";
+/// The level at which plain.c takes the fewest instructions.
+const LEVEL: &str = "-O3";
 
 fn main() {
     let package = PathBuf::from(env::var_os("CARGO_MANIFEST_DIR").expect("cargo sets it"));
@@ -26,6 +31,7 @@ fn main() {
     let archive = named("CHANTGARDEN_ARCHIVE", made.join("libchantgarden.a"));
     let beside = named("BY_VALUE_ARCHIVE", made.join("libby_value.a"));
     println!("cargo:rerun-if-changed=build.rs");
+    compile_plain(&package);
     if has_name(&archive) {
         println!("cargo:rustc-cfg=by_value");
     } else if has_name(&beside) {
@@ -35,6 +41,32 @@ fn main() {
         println!("cargo:rustc-link-search=native={folder}");
         println!("cargo:rustc-link-lib=static:+verbatim={name}");
     }
+}
+
+fn compile_plain(package: &Path) {
+    let (source, include) = (package.join("plain.c"), package.join("../include"));
+    let header = include.join("chantgarden.h");
+    println!("cargo:rerun-if-changed={}", source.display());
+    println!("cargo:rerun-if-changed={}", header.display());
+    println!("cargo:rerun-if-env-changed=CC");
+    let folder = PathBuf::from(env::var_os("OUT_DIR").expect("cargo sets it"));
+    let (object, archive) = (folder.join("plain.o"), folder.join("libplain.a"));
+    let compiler = env::var_os("CC").unwrap_or(OsString::from("cc"));
+    let mut compile = Command::new(compiler);
+    compile.args([LEVEL, "-std=c11", "-Wall", "-Wextra", "-c"]);
+    run(compile
+        .arg("-I")
+        .args([include, source])
+        .arg("-o")
+        .arg(&object));
+    run(Command::new("ar").arg("crs").args([archive, object]));
+    println!("cargo:rustc-link-search=native={}", folder.display());
+    println!("cargo:rustc-link-lib=static=plain");
+}
+
+fn run(command: &mut Command) {
+    let done = command.status();
+    assert!(done.is_ok_and(|done| done.success()), "{command:?}");
 }
 
 fn named(variable: &str, made: PathBuf) -> PathBuf {

@@ -1,12 +1,19 @@
 //! The benchmark: nanoseconds a step, of the archive, of the second program
 //! and of the engine by value where that can be timed (build.rs), in one run;
-//! the stack of each exported function; the size of a state. It writes
-//! Markdown. It is no test: its figures vary with where and when it runs.
+//! the stack of each exported function; the size of a state; instructions a
+//! call, beside the second program and a plain C engine, which is first held
+//! against the archive. It writes Markdown. It is no test: its figures vary
+//! with where and, but for the instructions, when it runs.
 
+mod callers;
+mod callgrind;
+mod count;
+mod plain;
 mod sides;
 mod stack;
 
 use chantgarden::lent::NUMBERS;
+use plain::Plain;
 use second::engine::{Engine, Standing};
 use second::generate::Random;
 use sides::{ByValue, InPlace, Lent, Side};
@@ -30,6 +37,8 @@ const TRIES: usize = 16;
 const ROUNDS: usize = 50;
 /// How often all sides come on.
 const TURNS: usize = 100;
+/// Random calls on which the plain C engine is held against the archive.
+const HELD: u64 = 200_000;
 
 /// What is played: the setup, the lock and the job that all workers get.
 pub struct Game {
@@ -194,18 +203,52 @@ fn stack_table(archive: &str) -> Result<(), String> {
     Ok(())
 }
 
-fn main() -> ExitCode {
-    let mut words = std::env::args().skip(1);
-    let (Some(archive), None) = (words.next(), words.next()) else {
-        eprintln!("usage: bench ARCHIVE");
-        return ExitCode::from(2);
-    };
+/// Holds the plain C engine against the archive and the second program, call
+/// by call; tells how many calls there were.
+fn hold() -> Result<String, String> {
+    let plain = Box::new(Plain::blank());
+    let held = compare::compare(1, HELD, Some(plain), |_| ());
+    let held = held.map_err(|no| format!("plain.c (the third) is no peer: {no}"))?;
+    Ok(held.counts())
+}
+
+/// All that the benchmark writes. Nothing is timed or counted of a peer that
+/// does something else.
+fn write(archive: &str) -> Result<(), String> {
+    let held = hold()?;
     workers_table();
     setups_table();
-    if let Err(fault) = stack_table(&archive) {
-        eprintln!("bench: {fault}");
-        return ExitCode::FAILURE;
-    }
+    stack_table(archive)?;
     println!("\nA state: {NUMBERS} numbers, {} bytes.", 4 * NUMBERS);
-    ExitCode::SUCCESS
+    println!("\nThe plain C engine answered like the archive: {held}.");
+    count::tables()
+}
+
+fn main() -> ExitCode {
+    let words: Vec<String> = std::env::args().skip(1).collect();
+    let words: Vec<&str> = words.iter().map(String::as_str).collect();
+    let done = match words[..] {
+        ["count", "1"] => count::play_all(1),
+        ["count", "8"] => count::play_all(8),
+        [archive] => write(archive),
+        _ => {
+            eprintln!("usage: bench ARCHIVE, bench count 1, bench count 8");
+            return ExitCode::from(2);
+        }
+    };
+    match done {
+        Ok(()) => ExitCode::SUCCESS,
+        Err(fault) => {
+            eprintln!("bench: {fault}");
+            ExitCode::FAILURE
+        }
+    }
+}
+
+#[cfg(test)]
+mod tests {
+    #[test]
+    fn the_plain_engine_is_a_peer() {
+        super::hold().unwrap_or_else(|no| panic!("{no}"));
+    }
 }

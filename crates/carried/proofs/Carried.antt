@@ -17,19 +17,20 @@ use Rattle.cells.proofs.Unpack.{Says}
 use Rattle.records.specs.Setup.{setupTold}
 use Rattle.steps.specs.Worker.{droppedOf}
 use Rattle.engine.specs.State.{blankOf, workerAt, withWorker}
-use Rattle.engine.specs.Calls.{outcomeOf, freshOf, setupOf, beginTold, takenOf, beginOf, stepOf, collectTold, collectOf, dropTold, dropOf}
+use Rattle.engine.specs.Calls.{outcomeOf, freshOf, setupOf, beginTold, takenOf, beginOf, stepTold, onwardOf, stepOf, collectTold, collectOf, dropTold, dropOf}
 use Rattle.engine.specs.declared.CollectTold.{CollectTold}
 use Rattle.engine.specs.declared.Engine.{Engine}
 use Rattle.lent.specs.Calls.{collectNumbers, dropNumbers}
 use Rattle.lent.proofs.Says.{collect-says, drop-says}
-use Rattle.lent_step.proofs.Says.{step-says, step-stays}
+use Rattle.lent_step.specs.Points.{stepNumbers}
+use Rattle.lent_step.proofs.Says.{step-says}
 use Rattle.lent_in.specs.Calls.{setupNumbers, beginNumbers}
 use Rattle.lent_in.proofs.Says.{setup-says, begin-says}
 use Rattle.door.specs.Calls.{setupLeft}
 use Rattle.door.specs.Door.{unlessShort}
-use Rattle.promises.proofs.Accepted.{collectedTo}
-use Rattle.promises.specs.History.{Call, Begin, Step, Collect, Drop, ReadWord, ReadLock, Show, Park, AllRecords, Past, after, afterAll, stateAfter}
-use Rattle.promises.proofs.Demand.{demand-3}
+use Rattle.past.proofs.Accepted.{collectedTo}
+use Rattle.past.specs.Past.{Call, Begin, Step, Collect, Drop, ReadWord, ReadLock, Show, Park, AllRecords, Past, after, afterAll, stateAfter}
+use Rattle.histories.proofs.demand.Demand.{demand-3}
 use Rattle.carried.specs.Carried.{lentAfter, lentAll, lentPast, Tells, Short, Carried}
 
 -- enough numbers, and too few
@@ -151,8 +152,10 @@ begin-left s w l rec r h =
     (refused-by (unpack s) (beginTold (unpack s) w l rec) (takenOf (unpack s) w l rec) r h))
 
 step-left : (s : List ℕ) (w : ℕ) (r : Refusal) → stepOf (unpack s) w .told ≡ Refused r → lentAfter s (Step w) ≡ s
-unfolding lentAfter
-step-left s w r h = either s _ (step-stays s w r h)
+unfolding stepOf stepNumbers lentAfter
+step-left s w r h =
+    either s _
+    (left (stepTold (unpack s) w) r _ s (refused-by (unpack s) (stepTold (unpack s) w) (onwardOf (unpack s) w) r h))
 
 drop-left : (s : List ℕ) (w : ℕ) (r : Refusal) → dropOf (unpack s) w .told ≡ Refused r → lentAfter s (Drop w) ≡ s
 unfolding dropOf dropNumbers lentAfter

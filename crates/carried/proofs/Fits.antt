@@ -26,9 +26,9 @@ use Rattle.records.proofs.Fours.{instrs-length, u32s-length, code-length, bytes
 use Rattle.engine.specs.Calls.{isFree, showTold, showOf, parkTold, parkOf}
 use Rattle.engine.specs.State.{lockAt, freeSheet, lockCount, wordCount, locksOf, wordsOf, baseOf, programLength, programOf, sheetRecord, stateRecord}
 use Rattle.engine.specs.declared.Engine.{Engine}
-use Rattle.promises.specs.Orders.{stateOf, isIdle, isUnderWay, isFinished, wrongLength, codeRows, beginRows, stepRows, collectRows, dropRows, guardRows, turnRows, setupRows, wordRows, lockRows, showRows, isHeld, heldRows, parkRows, Given}
-use Rattle.promises.proofs.Park.{wrote}
-use Rattle.promises.proofs.Refusals.{exactly}
+use Rattle.refusals.specs.Orders.{stateOf, isIdle, isUnderWay, isFinished, wrongLength, codeRows, beginRows, stepRows, collectRows, dropRows, guardRows, turnRows, setupRows, wordRows, lockRows, showRows, isHeld, heldRows, parkRows, Given}
+use Rattle.there_and_back.proofs.Park.{wrote}
+use Rattle.refusals.proofs.Refusals.{exactly}
 use Rattle.carried.specs.Fits.{Fits}
 
 -- each row that can be the first to refuse tells a place below n

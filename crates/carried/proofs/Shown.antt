@@ -1,4 +1,4 @@
--- By what lent calls tell (`carried`) and the table of the calls by value (promises): lists of 6,724 numbers are not computed.
+-- By what lent calls tell (`carried`) and the table of the calls by value (tables): lists of 6,724 numbers are not computed.
 use Prim.Native.Nat.{ℕ, zero, suc, _-_, _%_, _^_, _≤_}
 use native.Mathlib.Omega.{arith}
 use mathlib.Core.Path.{_≡_, refl, ap, _∙_}
@@ -16,11 +16,12 @@ use Rattle.engine.specs.declared.LockTold.{LockTold}
 use Rattle.engine.specs.declared.WordTold.{WordTold}
 use Rattle.door.specs.Calls.{beginReply}
 use Rattle.door.specs.Door.{refusalReply, replyOf, collectedOf, wordOf, lockOf}
-use Rattle.promises.specs.History.{Call, Begin, Step, Collect, Drop, ReadWord, ReadLock, Show, Park, AllRecords, afterAll, steps}
-use Rattle.promises.specs.Orders.{Refuses}
-use Rattle.promises.specs.Table.{setupS, jobA, jobSkipping, fresh, on, Answers, End, Ends, Stands, callsC, callsD, callsE, callsG, callsH}
-use Rattle.promises.proofs.Exhibit.{setup-bytes, job-bytes, job-b-bytes, past, premises-met}
-use Rattle.promises.proofs.Table.{table}
+use Rattle.past.specs.Past.{Call, Begin, Step, Collect, Drop, ReadWord, ReadLock, Show, Park, AllRecords, afterAll, steps}
+use Rattle.refusals.specs.Orders.{Refuses}
+use Rattle.tables.specs.Table.{setupS, jobA, jobSkipping, fresh, on, Answers, End, Ends, Stands, callsC, callsD, callsE, callsG, callsH}
+use Rattle.tables.proofs.Bytes.{setup-bytes, job-bytes, job-b-bytes}
+use Rattle.there_and_back.proofs.Exhibit.{past, premises-met}
+use Rattle.tables.proofs.Table.{table}
 use Rattle.carried.specs.Carried.{Tells}
 use Rattle.carried.specs.Shown.{zeros, lentOn, refusedBy, LentStands, LentEnds, LentTable}
 use Rattle.carried.proofs.Carried.{past-tells, tells}

@@ -12,7 +12,8 @@ use Rattle.engine.specs.declared.CollectTold.{CollectTold}
 use Rattle.engine.specs.declared.Engine.{Engine}
 use Rattle.parts.specs.declared.Refusal.{Refusal}
 use Rattle.parts.specs.declared.Told.the-variants.{Refused}
-use Rattle.promises.specs.History.{Call, Begin, Step, Collect, Drop, ReadWord, ReadLock, Show, Park, AllRecords, Past, afterAll, stateAfter, Demand3}
+use Rattle.past.specs.Past.{Call, Begin, Step, Collect, Drop, ReadWord, ReadLock, Show, Park, AllRecords, Past, afterAll, stateAfter}
+use Rattle.histories.specs.History.{Demand3}
 
 -- the numbers after one lent call; the readers and the writers change none
 unfoldable pub lentAfter : List ℕ → Call → List ℕ

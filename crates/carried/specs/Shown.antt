@@ -7,8 +7,8 @@ use lib.ListN.{replicate}
 use Rattle.cells.specs.Layout.{numbers}
 use Rattle.door.specs.Calls.{setupReply, setupLeft, beginReply, collectReply, wordReply, lockReply}
 use Rattle.door.specs.declared.Collected.{Collected}
-use Rattle.promises.specs.History.{Call, Begin, Step, Drop, steps}
-use Rattle.promises.specs.Table.{setupS, jobA, jobB, jobSkipping, ranYes, ranNo, notTaken, End, callsC, callsD, callsE, callsG, callsH}
+use Rattle.past.specs.Past.{Call, Begin, Step, Drop, steps}
+use Rattle.tables.specs.Table.{setupS, jobA, jobB, jobSkipping, ranYes, ranNo, notTaken, End, callsC, callsD, callsE, callsG, callsH}
 use Rattle.carried.specs.Carried.{lentAll}
 
 -- the numbers that the caller lends, and those after a lent setup of S and these lent calls
@@ -35,7 +35,7 @@ pub record LentEnds (calls : List Call) (w : ℕ) (end : End) : Type 0 where
       record { number = 0; place = 0; answer = end .answer; steps = end .steps }
   pub left : LentStands (lentOn (calls ++ steps (end .more) w)) (end .value) (end .count) (end .turn) 0 0
 
--- the starred rows, as in promises' `Table`; and setup S and the begins are accepted
+-- the starred rows, as in `Table` of tables; and setup S and the begins are accepted
 pub record LentTable : Type 0 where
   pub s : setupReply zeros setupS ≡ record { number = 0; place = 0 }
   pub begun : beginReply (lentOn []) 0 0 jobA ≡ record { number = 0; place = 0 }

@@ -3,3 +3,4 @@ pub mod Back
 pub mod Unpack
 pub mod Laws
 pub mod Row
+pub mod Tags

@@ -14,27 +14,27 @@ use Rattle.steps.specs.declared.Run.{Run}
 use Rattle.steps.specs.declared.Stage.{Stage}
 use Rattle.steps.specs.declared.Stage.the-variants.{Read, Commit, Swap, Mark, Release}
 use Rattle.helping.specs.Machine.{Rules, Shared, Pace, Act, fin, go, touch, target, put, ontoOf, loggedOf, heldOf, swapOf, readOf, followOf, commitOf, paceOf}
-use Rattle.helping.specs.Ideal.{Job, Ideal, raised, nextOf, idealOf, actIn, Touches, metIn, Follow, entryIn, Guarded, FineJob, Inv, At, In, Stands, Moved, Kept}
+use Rattle.helping.specs.Ideal.{Job, Ideal, raised, nextOf, idealOf, actIn, Logs, Touches, metIn, Follow, entryIn, Guarded, FineJob, Inv, At, In, Stands, Moved, Kept}
 use Rattle.helping.proofs.Put.{put-idle}
-use Rattle.helping.proofs.Run.{next-done, next-swap, swapped}
+use Rattle.helping.proofs.Run.{logs, met-word, next-done, next-swap, swapped, places-up}
 use Rattle.helping.proofs.Inside.{touches, names-in, asks-same, go-on, done-on, swap-on, still-there}
-use Rattle.helping.proofs.Commit.{empty-here, Committed, logOf, commit, swap-first, swap-late}
+use Rattle.helping.proofs.Commit.{empty-here, Committed, logOf, word-right, commit, swap-first, swap-late}
 
 -- the frontier passes instruction n
 push :
     (K : Rules) (J : Job) (n : ℕ) (x : Shared) (ws : ℕ → Reading) → Inv K J n x →
     ((q : ℕ) → Guarded K (J .lock) q → ws q ≡ idealOf J (suc n) .words q) →
-    (Touches (actIn J n) → entryIn J x n ≡ Filled (metIn J n)) →
+    (Logs (actIn J n) → entryIn J x n ≡ Filled (metIn J n)) →
     Inv K J (suc n) (record { word = ws; log = x .log })
 push K J n x ws v e f =
     record {
       words = e;
       past = λ j h t.
           ⊎-elim
-          (λ (z : j ≡ n). subst (λ (k : ℕ). Touches (actIn J k) → entryIn J x k ≡ Filled (metIn J k)) (sym z) f t)
+          (λ (z : j ≡ n). subst (λ (k : ℕ). Logs (actIn J k) → entryIn J x k ≡ Filled (metIn J k)) (sym z) f t)
           (λ (z : j < n). v .past j z t) (eq-or-lt-of-le {n = j} {m = n} (omega arith));
-      here = λ t. inl (v .later (suc n) (le-refl _) t);
-      later = λ j h t. v .later j (omega arith) t;
+      here = λ t. inl (v .later (idealOf J (suc n) .place) (le-refl _));
+      later = λ p h. v .later p (le-trans (places-up J (suc n) (suc (suc n)) (omega arith)) h);
     }
 
 -- the state stays, and so does the instruction
@@ -57,7 +57,7 @@ chain K J n x n′ x′ b m k =
             kept = λ j t e. m .kept j t (k .moved .kept j t e);
             holds = λ j e t q. k .moved .holds j e t (m .holds j e t q);
             still = λ j h t e.
-                k .moved .still j (le-trans h (m .up)) t e ∙ m .still j h t (k .moved .kept j t e);
+                k .moved .still j (le-trans h (m .up)) t e ∙ m .still j h t (k .moved .kept j (logs (actIn J j) t) e);
           };
     }
 
@@ -65,19 +65,19 @@ chain K J n x n′ x′ b m k =
 module _ (K : Rules) (J : Job) (n j : ℕ) (x : Shared) (ws : ℕ → Reading) (r : Run) (at : Stage) where
   finish :
       Inv K J n x → j ≤ n → In J (suc j) (record { word = ws; log = x .log }) r at →
-      (Touches (actIn J j) → entryIn J x j ≡ Filled (metIn J j)) →
-      (ws ≡ x .word) ⊎ Touches (actIn J j) →
+      (Logs (actIn J j) → entryIn J x j ≡ Filled (metIn J j)) →
+      (ws ≡ x .word) ⊎ Logs (actIn J j) →
       (j < n → ws ≡ x .word) →
       (j ≡ n → (q : ℕ) → Guarded K (J .lock) q → ws q ≡ idealOf J (suc j) .words q) →
       Kept K J n x (record { shared = record { word = ws; log = x .log }; run = r; stage = at })
   finish v h i f c late now = go (eq-or-lt-of-le h)
     where
       still :
-          (k : ℕ) → k ≤ n → j ≡ n → (ws ≡ x .word) ⊎ Touches (actIn J j) → Touches (actIn J k) → entryIn J x k ≡ Empty →
+          (k : ℕ) → k ≤ n → j ≡ n → (ws ≡ x .word) ⊎ Logs (actIn J j) → Touches (actIn J k) → entryIn J x k ≡ Empty →
           ws (target (actIn J k)) ≡ x .word (target (actIn J k))
       still k l z (inl e) t y = ap (λ (g : ℕ → Reading). g (target (actIn J k))) e
       still k l z (inr d) t y =
-          let e : k ≡ j = empty-here K J n k x v l t y ∙ sym z in
+          let e : k ≡ j = empty-here K J n k x v l (logs (actIn J k) t) y ∙ sym z in
           let y′ : entryIn J x j ≡ Empty = rw e at y in
           cc (f d)
 
@@ -89,7 +89,7 @@ module _ (K : Rules) (J : Job) (n j : ℕ) (x : Shared) (ws : ℕ → Reading) (
             inv =
                 push K J n x ws v
                 (subst (λ (k : ℕ). (q : ℕ) → Guarded K (J .lock) q → ws q ≡ idealOf J (suc k) .words q) z (now z))
-                (subst (λ (k : ℕ). Touches (actIn J k) → entryIn J x k ≡ Filled (metIn J k)) z f);
+                (subst (λ (k : ℕ). Logs (actIn J k) → entryIn J x k ≡ Filled (metIn J k)) z f);
             stands = record { j = suc j; behind = omega arith; inn = i };
             moved =
                 record {
@@ -116,7 +116,7 @@ module _ (K : Rules) (J : Job) (n j : ℕ) (x : Shared) (ws : ℕ → Reading) (
 module _ (K : Rules) (J : Job) (n : ℕ) (x : Shared) (j : ℕ) (v : Inv K J n x) (h : j ≤ n) where
   -- an instruction that changes no word
   plain :
-      (r : Run) (at : Stage) → In J (suc j) x r at → (Touches (actIn J j) → entryIn J x j ≡ Filled (metIn J j)) →
+      (r : Run) (at : Stage) → In J (suc j) x r at → (Logs (actIn J j) → entryIn J x j ≡ Filled (metIn J j)) →
       idealOf J (suc j) .words ≡ idealOf J j .words → Kept K J n x (record { shared = x; run = r; stage = at })
   plain r at i g e =
       finish K J n j x (x .word) r at v h i g (inl refl) (λ z. refl)
@@ -129,14 +129,14 @@ module _ (K : Rules) (J : Job) (n : ℕ) (x : Shared) (j : ℕ) (v : Inv K J n x
   unfolding idealOf nextOf
   read-kept r at p (fin said) e = stay K J n x _ _ v (record { j = j; behind = h; inn = (at, p, e) })
   read-kept r at p (go rs k) e =
-      plain _ _ (go-on J j r at x k rs e p) (λ t. absurd (subst Touches e t))
+      plain _ _ (go-on J j r at x k rs e p) (λ t. absurd (subst Logs e t))
       (ap (λ (a : Act). nextOf a (idealOf J j) .words) e)
   read-kept r at p (touch w g) e =
       stay K J n x _ _ v
       (record {
         j = j;
         behind = h;
-        inn = (at, p, subst Touches (sym e) tt, λ z. ap (λ (a : Act). x .word (target a)) (sym e));
+        inn = (at, p, subst Logs (sym e) tt, λ t z. ap (λ (a : Act). x .word (target a)) (sym e));
       })
 
 module _ (K : Rules) (J : Job) (f : FineJob K J) (n : ℕ) (x : Shared) (j : ℕ) (v : Inv K J n x) (h : j ≤ n) where
@@ -158,15 +158,16 @@ module _ (K : Rules) (J : Job) (f : FineJob K J) (n : ℕ) (x : Shared) (j : ℕ
       (record { j = j; behind = h; inn = (at, p, g, c .right, c .now ∙ ap Filled (c .right)) }))
 
   commit-kept :
-      (r : Run) (u : Reading) → At J j r → r .place ≡ idealOf J j .place → Touches (actIn J j) →
-      (entryIn J x j ≡ Empty → u ≡ x .word (target (actIn J j))) → (a : Act) → actIn J j ≡ a →
+      (r : Run) (u : Reading) → At J j r → r .place ≡ idealOf J j .place → Logs (actIn J j) →
+      (Touches (actIn J j) → entryIn J x j ≡ Empty → u ≡ x .word (target (actIn J j))) → (a : Act) → actIn J j ≡ a →
       Kept K J n x (commitOf a x r u)
-  commit-kept r u at p t w (fin said) e = absurd (subst Touches e t)
-  commit-kept r u at p t w (go rs k) e = absurd (subst Touches e t)
+  commit-kept r u at p t w (fin said) e = absurd (subst Logs e t)
+  commit-kept r u at p t w (go rs k) e = absurd (subst Logs e t)
   commit-kept r u at p t w (touch q g) e =
+      let d : Touches (actIn J j) = subst Touches (sym e) tt in
       let c =
       subst (λ (i : ℕ). Committed K J n x (logOf x i (heldOf (x .log i) u)) j (heldOf (x .log i) u)) (sym p)
-      (commit K J f n x j u v h t w (entryIn J x j) refl) in
+      (commit K J n x j u v h t (λ z. w d z ∙ word-right K J f n x j v h d z) (entryIn J x j) refl) in
       follow-kept (loggedOf r) (record { next = at .next; registers = at .registers }) (ap suc p) _ _ c _
       (subst (λ (a : Act). Follow a (heldOf (x .log (r .place)) u .value) (g (heldOf (x .log (r .place)) u .value))) (sym e) refl)
 
@@ -186,13 +187,13 @@ module _ (K : Rules) (J : Job) (f : FineJob K J) (n : ℕ) (x : Shared) (j : ℕ
       let w = target (actIn J j) in
       let t = touches (actIn J j) _ _ g in
       let here = v .words w (names-in K J f j t) in
-      finish K J n j x _ _ _ v h (swap-on J j r at x new g p) (λ k. q) (inr t)
+      finish K J n j x _ _ _ v h (swap-on J j r at x new g p) (λ k. q) (inr (logs (actIn J j) t))
       (λ z.
       put-idle (x .word) w _
       (swap-late (x .word w) (metIn J j) new
       (omega (arith, swapped J j n new g z, ap (λ (u : Reading). u .count) here))))
       (λ z k d.
-      let same : x .word w ≡ metIn J j = here ∙ ap (λ (m : ℕ). idealOf J m .words w) (sym z) in
+      let same : x .word w ≡ metIn J j = here ∙ ap (λ (m : ℕ). idealOf J m .words w) (sym z) ∙ sym (met-word (actIn J j) (idealOf J j) t) in
       let first : swapOf (x .word w) (metIn J j) new ≡ raised (metIn J j) new =
       ap (λ (u : Reading). swapOf u (metIn J j) new) same ∙ swap-first (metIn J j) new in
       ap (λ (u : Reading). put (x .word) w u k) first ∙

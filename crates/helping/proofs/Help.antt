@@ -28,7 +28,7 @@ use Rattle.alone.specs.Jobs.{Try, givesOf, partOf}
 use Rattle.alone.proofs.Jobs.{gives-length}
 use Rattle.helping.specs.Machine.{Rules, Scene, Tale, put, sharedOf, paceOf, movedOf, releaseOf, lookTo, pacedOf, stepAt, stepTale}
 use Rattle.helping.specs.Ideal.{Guarded, leftAt}
-use Rattle.helping.specs.Ok.{current, Status, viewOf, todoAt, Ok, Next, onward, aloneSteps}
+use Rattle.helping.specs.Ok.{current, Status, todoAt, Ok, Next, onward, aloneSteps}
 use Rattle.helping.proofs.Put.{put-same}
 use Rattle.helping.proofs.Touch.{OnRun, run-on, Going, paced}
 use Rattle.helping.proofs.Alone.{part-alone}

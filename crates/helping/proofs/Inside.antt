@@ -11,7 +11,7 @@ use Rattle.steps.specs.declared.Stage.{Stage}
 use Rattle.steps.specs.declared.Stage.the-variants.{Read, Commit, Swap, Mark, Release}
 use Rattle.helping.specs.Machine.{Rules, Shared, Act, fin, go, touch, actAt, target, ontoOf}
 use Rattle.helping.specs.Ideal.{farOf, Job, Ideal, nextOf, idealOf, actIn, Touches, metIn, Follow, Guarded, FineJob, At, In, Stands, Moved}
-use Rattle.helping.proofs.Run.{next-in, next-done, next-swap}
+use Rattle.helping.proofs.Run.{logs, next-in, next-done, next-swap}
 
 -- what follows from a word follows at an instruction that asks for one
 pub touches : (a : Act) (v : ℕ) (x : Follows) → Follow a v x → Touches a
@@ -74,9 +74,9 @@ in-moved :
     In J j x′ r at
 in-moved J n n′ x x′ m j r Read h i = i
 in-moved J n n′ x x′ m j r (Commit u) h (a, p, t, w) =
-    (a, p, t, λ e. w (m .kept j t e) ∙ sym (m .still j h t e))
+    (a, p, t, λ d e. w d (m .kept j t e) ∙ sym (m .still j h d e))
 in-moved J n n′ x x′ m j r (Swap e new) h (a, p, t, w, q) =
-    (a, p, t, w, m .holds j _ (touches (actIn J j) _ _ t) q)
+    (a, p, t, w, m .holds j _ (logs (actIn J j) (touches (actIn J j) _ _ t)) q)
 in-moved J n n′ x x′ m j r (Mark said) h i = i
 in-moved J n n′ x x′ m j r (Release said) h i = i
 

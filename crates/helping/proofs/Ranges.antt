@@ -17,8 +17,8 @@ use Rattle.steps.specs.declared.Stage.{Stage}
 use Rattle.steps.specs.declared.Stage.the-variants.{Read, Commit, Swap, Mark, Release}
 use Rattle.steps.specs.declared.State.{State}
 use Rattle.steps.specs.declared.State.the-variants.{Idle, UnderWay, Finished}
-use Rattle.helping.specs.Machine.{Rules, Scene, Tale, actAt}
-use Rattle.helping.specs.Ideal.{idealOf, actIn, Touches, farOf, Fine, At}
+use Rattle.helping.specs.Machine.{Rules, Scene, Tale, Act, actAt}
+use Rattle.helping.specs.Ideal.{idealOf, actIn, Logs, Touches, farOf, Fine, At}
 use Rattle.helping.specs.Ok.{unwon, Status, viewOf, RunsAt, PointOk, StateOk, LockOk, Ok, RunIn, StageIn, PointIn, Ranged}
 use Rattle.helping.proofs.Run.{next-in, lag}
 use Rattle.helping.proofs.Inside.{touches, touch-far, asks-same}
@@ -54,13 +54,13 @@ ranged-point K E T st o own l p q = go p q
           names = λ t. f .names (r .next) (r .registers) below t .0;
         }
 
-    -- the instruction that it is at asks for a word
+    -- the instruction that it is at asks for what the ideal run asks for
     asks :
-        (r : Run) (j : ℕ) → st (r .sheet) .kind ≢ unwon → At (st (r .sheet) .job) j r →
-        Touches (actIn (st (r .sheet) .job) j) → Touches (actAt (E .program (r .sheet)) (r .next) (r .registers))
-    asks r j won a t =
-        subst (λ (c : List Instr). Touches (actAt c (r .next) (r .registers))) (on-sheet K E T st o (r .sheet) won .code)
-        (subst Touches (sym (asks-same (st (r .sheet) .job) j r a)) t)
+        (P : Act → Type 0) (r : Run) (j : ℕ) → st (r .sheet) .kind ≢ unwon → At (st (r .sheet) .job) j r →
+        P (actIn (st (r .sheet) .job) j) → P (actAt (E .program (r .sheet)) (r .next) (r .registers))
+    asks P r j won a t =
+        subst (λ (c : List Instr). P (actAt c (r .next) (r .registers))) (on-sheet K E T st o (r .sheet) won .code)
+        (subst P (sym (asks-same (st (r .sheet) .job) j r a)) t)
 
     stage :
         (r : Run) (at : Stage) → RunsAt (viewOf E st) own l r at →
@@ -68,13 +68,13 @@ ranged-point K E T st o own l p q = go p q
     stage r Read q = (run r (q .1 .j) (q .0 .won .is) (q .1 .inn .0) (omega (arith, q .1 .inn .1)), tt)
     stage r (Commit u) q = (
       run r (q .1 .j) (q .0 .won .is) (q .1 .inn .0) (omega (arith, q .1 .inn .1)),
-      asks r (q .1 .j) (q .0 .won .is) (q .1 .inn .0) (q .1 .inn .2),
+      asks Logs r (q .1 .j) (q .0 .won .is) (q .1 .inn .0) (q .1 .inn .2),
     )
     stage r (Swap e new) q =
         let a = actIn (st (r .sheet) .job) (q .1 .j) in
         let t = touches a _ _ (q .1 .inn .2) in (
           run r (q .1 .j) (q .0 .won .is) (q .1 .inn .0) (omega (arith, q .1 .inn .1, touch-far a t)),
-          asks r (q .1 .j) (q .0 .won .is) (q .1 .inn .0) t,
+          asks Touches r (q .1 .j) (q .0 .won .is) (q .1 .inn .0) t,
         )
     stage r (Mark said) q = (run r (q .1 .j) (q .0 .won .is) (q .1 .inn .0) (omega (arith, q .1 .inn .1)), tt)
     stage r (Release said) q = (run r (q .1 .j) (q .0 .won .is) (q .1 .inn .0) (omega (arith, q .1 .inn .1)), tt)

@@ -11,7 +11,7 @@ use Rattle.parts.specs.declared.Reading.{Reading}
 use Rattle.parts.specs.declared.Registers.{Registers}
 use Rattle.alone.proofs.Bounds.{follows-all}
 use Rattle.helping.specs.Machine.{Rules, Act, fin, go, touch, actAt, target, put}
-use Rattle.helping.specs.Ideal.{Job, Ideal, raised, nextOf, idealOf, actIn, Touches, metIn, Follow, farOf, FineJob}
+use Rattle.helping.specs.Ideal.{Job, Ideal, raised, nextOf, idealOf, actIn, Logs, metOf, Touches, metIn, Follow, farOf, FineJob}
 use Rattle.helping.proofs.Put.{put-case, put-same}
 
 -- how each kind of instruction moves it
@@ -28,8 +28,19 @@ next-in K J f zero = f .some
 next-in K J f (suc n) =
     omega (arith, far-next (actIn J n) (idealOf J n), f .inside _ (idealOf J n .registers) (next-in K J f n))
 
+-- an instruction that asks for a word has an entry, and its entry is the reading of that word
+pub logs : (a : Act) → Touches a → Logs a
+logs (fin said) t = t
+logs (go rs n) t = t
+logs (touch w f) t = t
+
+pub met-word : (a : Act) (s : Ideal) → Touches a → metOf a s ≡ s .words (target a)
+met-word (fin said) s t = absurd t
+met-word (go rs n) s t = absurd t
+met-word (touch w f) s t = refl
+
 pub next-done :
-    (a : Act) (s : Ideal) (rs : Registers) → Follow a (s .words (target a) .value) (Done rs) →
+    (a : Act) (s : Ideal) (rs : Registers) → Follow a (metOf a s .value) (Done rs) →
     nextOf a s ≡ record { next = suc (s .next); registers = rs; place = suc (s .place); words = s .words }
 unfolding nextOf
 next-done (fin said) s rs e = absurd e
@@ -37,13 +48,13 @@ next-done (go next n) s rs e = absurd e
 next-done (touch w f) s rs e = rw e
 
 pub next-swap :
-    (a : Act) (s : Ideal) (new : ℕ) → Follow a (s .words (target a) .value) (Swap new) →
+    (a : Act) (s : Ideal) (new : ℕ) → Follow a (metOf a s .value) (Swap new) →
     nextOf a s ≡
     record {
       next = suc (s .next);
       registers = s .registers;
       place = suc (s .place);
-      words = put (s .words) (target a) (raised (s .words (target a)) new);
+      words = put (s .words) (target a) (raised (metOf a s) new);
     }
 unfolding nextOf
 next-swap (fin said) s new e = absurd e
@@ -77,17 +88,20 @@ next-count q (touch w f) s =
 counts-up : (J : Job) (q j n : ℕ) → j ≤ n → idealOf J j .words q .count ≤ idealOf J n .words q .count
 counts-up J q = rise J (λ s. s .words q .count) (next-count q)
 
-touch-place : (a : Act) (s : Ideal) → Touches a → nextOf a s .place ≡ suc (s .place)
+pub places-up : (J : Job) (j n : ℕ) → j ≤ n → idealOf J j .place ≤ idealOf J n .place
+places-up J = rise J (λ s. s .place) next-place
+
+logs-place : (a : Act) (s : Ideal) → Logs a → nextOf a s .place ≡ suc (s .place)
 unfolding nextOf
-touch-place (fin said) s t = absurd t
-touch-place (go rs n) s t = absurd t
-touch-place (touch w f) s t =
+logs-place (fin said) s t = absurd t
+logs-place (go rs n) s t = absurd t
+logs-place (touch w f) s t =
     follows-all (λ (u : Ideal). u .place ≡ suc (s .place)) (f (s .words w .value)) (λ rs. refl) (λ new. refl)
 
-pub place-up : (J : Job) (j n : ℕ) → Touches (actIn J j) → j < n → idealOf J j .place < idealOf J n .place
+pub place-up : (J : Job) (j n : ℕ) → Logs (actIn J j) → j < n → idealOf J j .place < idealOf J n .place
 unfolding idealOf
 place-up J j n t h =
-    omega (arith, touch-place (actIn J j) (idealOf J j) t, rise J (λ s. s .place) next-place (suc j) n h)
+    omega (arith, logs-place (actIn J j) (idealOf J j) t, places-up J (suc j) n h)
 
 -- a swap that took effect raises the count for good
 pub swapped :

@@ -12,6 +12,7 @@ use Rattle.helping.specs.Machine.{Rules, target}
 use Rattle.helping.specs.Ideal.{Job, idealOf, actIn, Touches, metIn, entryIn, Guarded, FineJob, Inv, Old, Moved}
 use Rattle.helping.specs.Ok.{Kind, unwon, current, past, Status, View, sharedAt, OnSheet, SheetOk}
 use Rattle.helping.proofs.Distinct.{won-kind}
+use Rattle.helping.proofs.Run.{logs}
 use Rattle.helping.proofs.Inside.{names-in}
 use Rattle.helping.proofs.Stale.{entered}
 use Rattle.helping.proofs.Frame.{Passed}
@@ -55,7 +56,7 @@ module _ (K : Rules) (v v′ : View) (lock lock′ : ℕ → LockWord) (s : ℕ)
                   subst (λ (x : Fill). (x ≡ Empty) ⊎ (x ≡ Filled (metIn J (v .st s .front))))
                   (sym (entry-spared J (v .st s .front)))
                   (q .2 .here m);
-              later = λ j h m. entry-spared J j ∙ q .2 .later j h m;
+              later = λ p h. ap (λ (f : ℕ → Fill). f p) (c .log) ∙ q .2 .later p h;
             }),
       )
   spared-at past e q =
@@ -88,7 +89,7 @@ module _ (K : Rules) (v v′ : View) (lock lock′ : ℕ → LockWord) (s : ℕ)
   still-at past e q n j h m z =
       let J : Job = v .st s .job in
       let y : Empty ≡ Filled (metIn J j) =
-      sym z ∙ entry-spared J j ∙ entered K J (v .st s .front) (sharedAt v s) (q .1) j h m in
+      sym z ∙ entry-spared J j ∙ entered K J (v .st s .front) (sharedAt v s) (q .1) j h (logs (actIn J j) m) in
       cc
 
   pub passed-spared : SheetOk K v lock s (v .st s .kind) → Passed v v′ s

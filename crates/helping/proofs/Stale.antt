@@ -13,7 +13,7 @@ use Rattle.steps.specs.declared.Run.{Run}
 use Rattle.steps.specs.declared.Stage.{Stage}
 use Rattle.steps.specs.declared.Stage.the-variants.{Read, Commit, Swap, Mark, Release}
 use Rattle.helping.specs.Machine.{Rules, Shared, Pace, Act, fin, go, touch, target, put, ontoOf, loggedOf, heldOf, swapOf, readOf, followOf, commitOf, paceOf}
-use Rattle.helping.specs.Ideal.{Job, idealOf, actIn, Touches, metIn, Follow, entryIn, farOf, FineJob, Old, At, In, Stands}
+use Rattle.helping.specs.Ideal.{Job, idealOf, actIn, Logs, Touches, metIn, Follow, entryIn, farOf, FineJob, Old, At, In, Stands}
 use Rattle.helping.proofs.Put.{put-idle}
 use Rattle.helping.proofs.Run.{swapped}
 use Rattle.helping.proofs.Inside.{touches, names-in, asks-same, go-on, done-on, swap-on}
@@ -30,8 +30,8 @@ module _ (K : Rules) (J : Job) (n : ℕ) (x : Shared) (o : Old K J n x) (j : ℕ
       ⊎-elim (λ (z : j ≡ n). absurd (d (subst P (ap (actIn J) z ∙ o .halts) p))) (λ (z : j < n). z) (eq-or-lt-of-le h)
 
   -- its entries up to the halt are filled
-  pub entered : Touches (actIn J j) → entryIn J x j ≡ Filled (metIn J j)
-  entered t = o .past j (before Touches t (λ e. e)) t
+  pub entered : Logs (actIn J j) → entryIn J x j ≡ Filled (metIn J j)
+  entered t = o .past j (before Logs t (λ e. e)) t
 
   read-still :
       (r : Run) → At J j r → r .place ≡ idealOf J j .place → (a : Act) → actIn J j ≡ a → Still J n x (readOf a x r)
@@ -54,23 +54,23 @@ module _ (K : Rules) (J : Job) (n : ℕ) (x : Shared) (o : Old K J n x) (j : ℕ
             record {
               j = j;
               behind = h;
-              inn = (at, p, subst Touches (sym e) tt, λ z. ap (λ (a : Act). x .word (target a)) (sym e));
+              inn = (at, p, subst Logs (sym e) tt, λ t z. ap (λ (a : Act). x .word (target a)) (sym e));
             };
       }
 
   follow-still :
-      (r : Run) → At J j r → r .place ≡ suc (idealOf J j .place) → Touches (actIn J j) → (s : Follows) →
+      (r : Run) → At J j r → r .place ≡ suc (idealOf J j .place) → Logs (actIn J j) → (s : Follows) →
       Follow (actIn J j) (metIn J j .value) s → Stands J n x (followOf s x r (metIn J j) .run) (followOf s x r (metIn J j) .stage)
   follow-still r at p t (follows.Done rs) g =
-      record { j = suc j; behind = before Touches t (λ e. e); inn = done-on J j r at x rs g p }
+      record { j = suc j; behind = before Logs t (λ e. e); inn = done-on J j r at x rs g p }
   follow-still r at p t (follows.Swap new) g =
       record { j = j; behind = h; inn = (at, p, g, refl, entered t) }
 
   commit-still :
-      (r : Run) (u : Reading) → At J j r → r .place ≡ idealOf J j .place → Touches (actIn J j) → (a : Act) →
+      (r : Run) (u : Reading) → At J j r → r .place ≡ idealOf J j .place → Logs (actIn J j) → (a : Act) →
       actIn J j ≡ a → Still J n x (commitOf a x r u)
-  commit-still r u at p t (fin said) e = absurd (subst Touches e t)
-  commit-still r u at p t (go rs k) e = absurd (subst Touches e t)
+  commit-still r u at p t (fin said) e = absurd (subst Logs e t)
+  commit-still r u at p t (go rs k) e = absurd (subst Logs e t)
   commit-still r u at p t (touch w g) e =
       let q : x .log (r .place) ≡ Filled (metIn J j) = ap (x .log) p ∙ entered t in
       subst

@@ -73,7 +73,7 @@ module _ (K : Rules) (E : Scene) (T : Tale) (st : ℕ → Status) (o : Ok K E T 
         words = λ q g i. record { value = was-free .values q g i; count = E .word q .count };
         past = λ j h m. absurd (omega arith);
         here = λ m. inl (f .1 _);
-        later = λ j h m. f .1 _;
+        later = λ p h. f .1 p;
       }
 
   took-other : (m : ℕ) → m ≢ own → Spared K (viewOf E st) anew (E .lock) (put (E .lock) l heldWord) m

@@ -15,7 +15,7 @@ use Rattle.steps.specs.declared.Run.{Run}
 use Rattle.steps.specs.declared.Stage.{Stage}
 use Rattle.steps.specs.declared.Stage.the-variants.{Read, Commit, Swap, Mark, Release}
 use Rattle.helping.specs.Machine.{Rules, Shared, Pace, Act, fin, go, touch, actAt, target, put, loggedOf, heldOf, swapOf, readOf, followOf, commitOf, paceOf}
-use Rattle.helping.specs.Ideal.{Job, raised, idealOf, actIn, Touches, Guarded, farOf, FineJob, At, In, Stands, leftAt}
+use Rattle.helping.specs.Ideal.{Job, raised, idealOf, actIn, Logs, Guarded, farOf, FineJob, At, In, Stands, leftAt}
 use Rattle.helping.specs.Ok.{Releasing}
 use Rattle.helping.proofs.Put.{put-case, put-other}
 use Rattle.helping.proofs.Run.{next-in}
@@ -124,7 +124,7 @@ module _ (most : ℕ) (x : Shared) (r : Run) where
   read-paced (touch w f) h = omega arith
 
   commit-paced :
-      (u : Reading) (a : Act) → Touches a → r .next + farOf a < most →
+      (u : Reading) (a : Act) → Logs a → r .next + farOf a < most →
       leftBy most (commitOf a x r u) < leftAt most r (Commit u)
   commit-paced u (fin said) t h = absurd t
   commit-paced u (go rs n) t h = absurd t

@@ -53,18 +53,31 @@ unfoldable pub idealOf : Job → ℕ → Ideal
 idealOf J zero = record { next = 0; registers = registers0; place = 0; words = J .words }
 idealOf J (suc n) = nextOf (actAt (J .code) (idealOf J n .next) (idealOf J n .registers)) (idealOf J n)
 
--- what its instruction n asks for; whether that is a word; the reading that it finds, which its entry must hold; what follows
+-- what its instruction n asks for
 abbrev pub actIn : Job → ℕ → Act
 actIn J n = actAt (J .code) (idealOf J n .next) (idealOf J n .registers)
 
+-- whether an instruction has an entry in the log; and what that must hold, once the ideal run has come to it
+abbrev pub Logs : Act → Type 0
+Logs (fin said) = ⊥
+Logs (go rs n) = ⊥
+Logs (touch w f) = Unit {0}
+
+abbrev pub metOf : Act → Ideal → Reading
+metOf (fin said) s = record { value = 0; count = 0 }
+metOf (go rs n) s = record { value = 0; count = 0 }
+metOf (touch w f) s = s .words w
+
+abbrev pub metIn : Job → ℕ → Reading
+metIn J n = metOf (actIn J n) (idealOf J n)
+
+-- whether it asks for a word: then its entry is the reading of that word (`met-word`)
 abbrev pub Touches : Act → Type 0
 Touches (fin said) = ⊥
 Touches (go rs n) = ⊥
 Touches (touch w f) = Unit {0}
 
-abbrev pub metIn : Job → ℕ → Reading
-metIn J n = idealOf J n .words (target (actIn J n))
-
+-- what follows from the value in its entry
 abbrev pub Follow : Act → ℕ → Follows → Type 0
 Follow (fin said) v x = ⊥
 Follow (go rs n) v x = ⊥
@@ -94,19 +107,19 @@ abbrev pub FineJob : Rules → Job → Type 0
 FineJob K J = Fine K (J .lock) (J .code)
 
 -- The shared state at frontier n: the words are the ideal run's after n instructions; the entries before n are filled with what
--- it met; that of n is empty or so filled; those after n are empty.
+-- it met; that of n is empty or so filled; every place of the log after it is empty.
 pub record Inv (K : Rules) (J : Job) (n : ℕ) (x : Shared) : Type 0 where
   pub words : (q : ℕ) → Guarded K (J .lock) q → x .word q ≡ idealOf J n .words q
-  pub past : (j : ℕ) → j < n → Touches (actIn J j) → entryIn J x j ≡ Filled (metIn J j)
-  pub here : Touches (actIn J n) → (entryIn J x n ≡ Empty) ⊎ (entryIn J x n ≡ Filled (metIn J n))
-  pub later : (j : ℕ) → n < j → Touches (actIn J j) → entryIn J x j ≡ Empty
+  pub past : (j : ℕ) → j < n → Logs (actIn J j) → entryIn J x j ≡ Filled (metIn J j)
+  pub here : Logs (actIn J n) → (entryIn J x n ≡ Empty) ⊎ (entryIn J x n ≡ Filled (metIn J n))
+  pub later : (p : ℕ) → idealOf J (suc n) .place ≤ p → x .log p ≡ Empty
 
 -- Of a sheet that let go of its lock: the log is complete up to a halt at n, and the counts of the lock's words are at least what
 -- the job left, so that every late swap fails.
 pub record Old (K : Rules) (J : Job) (n : ℕ) (x : Shared) : Type 0 where
   pub said : Bool
   pub halts : actIn J n ≡ fin said
-  pub past : (j : ℕ) → j < n → Touches (actIn J j) → entryIn J x j ≡ Filled (metIn J j)
+  pub past : (j : ℕ) → j < n → Logs (actIn J j) → entryIn J x j ≡ Filled (metIn J j)
   pub counts : (q : ℕ) → Guarded K (J .lock) q → idealOf J n .words q .count ≤ x .word q .count
 
 -- a run with the registers of the ideal run's instruction j, before it
@@ -114,13 +127,13 @@ pub record At (J : Job) (j : ℕ) (r : Run) : Type 0 where
   pub next : r .next ≡ idealOf J j .next
   pub registers : r .registers ≡ idealOf J j .registers
 
--- a run at a stage, inside instruction j of the ideal run. A run that has read, while its entry is empty, has read the present
--- word.
+-- a run at a stage, inside instruction j of the ideal run. A run that has read a word, while its entry is empty, has read the
+-- present word.
 abbrev pub In : Job → ℕ → Shared → Run → Stage → Type 0
 In J j x r Read = At J j r × (r .place ≡ idealOf J j .place)
 In J j x r (Commit u) =
-    At J j r × (r .place ≡ idealOf J j .place) × Touches (actIn J j) ×
-    (entryIn J x j ≡ Empty → u ≡ x .word (target (actIn J j)))
+    At J j r × (r .place ≡ idealOf J j .place) × Logs (actIn J j) ×
+    (Touches (actIn J j) → entryIn J x j ≡ Empty → u ≡ x .word (target (actIn J j)))
 In J j x r (Swap e new) =
     At J j r × (r .place ≡ suc (idealOf J j .place)) × Follow (actIn J j) (metIn J j .value) (follows.Swap new) ×
     (e ≡ metIn J j) × (entryIn J x j ≡ Filled (metIn J j))
@@ -135,8 +148,8 @@ pub record Stands (J : Job) (n : ℕ) (x : Shared) (r : Run) (at : Stage) : Type
 -- what a step may do to the shared state, as any other run of the sheet sees it
 pub record Moved (J : Job) (n : ℕ) (x : Shared) (n′ : ℕ) (x′ : Shared) : Type 0 where
   pub up : n ≤ n′
-  pub kept : (j : ℕ) → Touches (actIn J j) → entryIn J x′ j ≡ Empty → entryIn J x j ≡ Empty
-  pub holds : (j : ℕ) (e : Reading) → Touches (actIn J j) → entryIn J x j ≡ Filled e → entryIn J x′ j ≡ Filled e
+  pub kept : (j : ℕ) → Logs (actIn J j) → entryIn J x′ j ≡ Empty → entryIn J x j ≡ Empty
+  pub holds : (j : ℕ) (e : Reading) → Logs (actIn J j) → entryIn J x j ≡ Filled e → entryIn J x′ j ≡ Filled e
   pub still :
       (j : ℕ) → j ≤ n → Touches (actIn J j) → entryIn J x′ j ≡ Empty →
       x′ .word (target (actIn J j)) ≡ x .word (target (actIn J j))

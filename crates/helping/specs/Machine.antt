@@ -274,8 +274,12 @@ beginTale T i l code =
       won = T .won;
     }
 
+-- the tale with these lists
+abbrev pub withWon : Tale → (ℕ → List Try) → Tale
+withWon T won = record { begins = T .begins; tries = T .tries; won = won }
+
 abbrev pub winTale : Tale → ℕ → ℕ → Tale
-winTale T i l = record { begins = T .begins; tries = T .tries; won = put (T .won) l (T .tries i ∷ T .won l) }
+winTale T i l = withWon T (put (T .won) l (T .tries i ∷ T .won l))
 
 -- a grab that takes the lock wins it
 unfoldable pub grabTale : Tale → ℕ → ℕ → LockWord → ℕ → Tale

@@ -27,7 +27,7 @@ use Rattle.steps.specs.declared.Worker.{Worker}
 use Rattle.alone.specs.Alone.{aloneOf}
 use Rattle.alone.specs.Jobs.{Try, givesOf, times}
 use Rattle.helping.specs.Machine.{Rules, Scene, Shared, Act, Tale, actAt, target, stepAt}
-use Rattle.helping.specs.Ideal.{Job, Touches, farOf, Guarded, Fine, FineJob, Inv, Old, Stands, leftAt}
+use Rattle.helping.specs.Ideal.{Job, Logs, Touches, farOf, Guarded, Fine, FineJob, Inv, Old, Stands, leftAt}
 
 -- what is known of a sheet: it has not won its lock yet, it holds it, or it has let go of it; the turn under which it won, and
 -- the frontier of its ideal run
@@ -229,10 +229,10 @@ pub record RunIn (K : Rules) (E : Scene) (r : Run) : Type 0 where
       Touches (actAt (E .program (r .sheet)) (r .next) (r .registers)) →
       target (actAt (E .program (r .sheet)) (r .next) (r .registers)) < length (K .values)
 
--- at a commit or a swap the instruction asks for a word
+-- at a commit the instruction has an entry, and at a swap it asks for a word
 abbrev pub StageIn : Act → Stage → Type 0
 StageIn a Read = Unit {0}
-StageIn a (Commit u) = Touches a
+StageIn a (Commit u) = Logs a
 StageIn a (Swap e new) = Touches a
 StageIn a (Mark said) = Unit {0}
 StageIn a (Release said) = Unit {0}

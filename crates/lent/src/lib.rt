@@ -1,18 +1,37 @@
 // Collect, drop and the two readers, in place on numbers that a caller lends. Each contract gives what is told, the numbers at exit
 // exactly, and the state that they say.
 ghost use mathlib.Core.Path.{_≡_};
-ghost use Prim.Native.Nat.{_≤_};
+ghost use Prim.Native.Nat.{_≤_, _<_};
 ghost use lib.ListN.{length};
 ghost use Rattle.engine.specs.Calls.{collectOf, dropOf, readWordOf, readLockOf};
-ghost use Rattle.cells.specs.Layout.{numbers, unpack};
-ghost use Rattle.lent.specs.Calls.{collectNumbers, dropNumbers};
+ghost use Rattle.parts.specs.Numbers.{workers};
+ghost use Rattle.cells.specs.Layout.{numbers, unpack, putIdle};
+ghost use Rattle.lent.specs.Calls.{handedOut, collectNumbers, dropNumbers};
+use cells::codes;
+use cells::worker::IDLE;
+use cells::worker::NEW;
+use cells::worker::RELEASE;
+use cells::worker::STEPS;
+use cells::worker::TAG;
 use engine::CollectTold;
 use engine::LockTold;
 use engine::WordTold;
 use parts::Refusal;
 use parts::Told;
 use parts::WORKERS;
-use steps::State;
+
+// The answer and the steps of worker w, which has finished; it is idle then.
+fn hand_out(s: &mut [u32], w: usize) -> CollectTold
+    requires { ⌜ (numbers ≤ length (now s)) × (w < workers) ⌝ }
+    ensures { λ r. ⌜ r ≡ handedOut (now (s .entry)) w ⌝ }
+    ensures { λ _. ⌜ now (s .exit) ≡ putIdle (now (s .entry)) w ⌝ }
+{
+    let new = cells::get_number(s, w, NEW);
+    let steps = cells::get_number(s, w, STEPS);
+    cells::put_idle(s, w);
+    let answer = codes::answer_of(new);
+    CollectTold::Answered(answer, steps)
+}
 
 // The answer of worker w's try and its steps; the worker is idle. Refused: 1, 11, 3.
 pub fn collect(s: &mut [u32], w: u32) -> CollectTold
@@ -25,16 +44,14 @@ pub fn collect(s: &mut [u32], w: u32) -> CollectTold
     if WORKERS <= i {
         return CollectTold::Refused(Refusal::NoWorker);
     }
-    let k = cells::get_worker(s, i);
-    let state = k.state;
-    match state {
-        State::Idle => CollectTold::Refused(Refusal::WorkerIdle),
-        State::UnderWay(_) => CollectTold::Refused(Refusal::WorkerUnderWay),
-        State::Finished(answer) => {
-            cells::put_idle(s, i);
-            CollectTold::Answered(answer, k.steps)
-        }
+    let tag = cells::get_number(s, i, TAG);
+    if tag == IDLE {
+        return CollectTold::Refused(Refusal::WorkerIdle);
     }
+    if tag <= RELEASE {
+        return CollectTold::Refused(Refusal::WorkerUnderWay);
+    }
+    hand_out(s, i)
 }
 
 // Worker w is idle; a held lock stays held. Refused: 1, 11.
@@ -48,19 +65,12 @@ pub fn drop(s: &mut [u32], w: u32) -> Told
     if WORKERS <= i {
         return Told::Refused(Refusal::NoWorker);
     }
-    let k = cells::get_worker(s, i);
-    let state = k.state;
-    match state {
-        State::Idle => Told::Refused(Refusal::WorkerIdle),
-        State::UnderWay(_) => {
-            cells::put_idle(s, i);
-            Told::Accepted
-        }
-        State::Finished(_) => {
-            cells::put_idle(s, i);
-            Told::Accepted
-        }
+    let tag = cells::get_number(s, i, TAG);
+    if tag == IDLE {
+        return Told::Refused(Refusal::WorkerIdle);
     }
+    cells::put_idle(s, i);
+    Told::Accepted
 }
 
 // A word's value, count and guard. Refused: 16.

@@ -1,4 +1,4 @@
-pub mod Seen
 pub mod Put
 pub mod Moved
 pub mod Says
+pub mod Laws

@@ -29,8 +29,8 @@ use Rattle.cells.specs.Layout.{numbers, workerUsed, unpack, rowOf, numberAt, ru
 use Rattle.cells.proofs.Back.{byte-back, flag-back, answer-back, lock-back}
 use Rattle.cells.proofs.Row.{Row, worker-is, row-none, row-put}
 use Rattle.cells.proofs.Unpack.{Says}
-use Rattle.lent_step.specs.Moves.{steppedTo, toGrab, toLookAgain, toReadMark, cleared, started, passed, went, halted, holding, touched, placeAfter, logged, loaded, stored, toRelease, finished}
-use Rattle.lent_step.specs.Points.{saidNow}
+use Rattle.lent_moves.specs.Moves.{steppedTo, toGrab, toLookAgain, toReadMark, cleared, started, passed, went, halted, holding, touched, placeAfter, logged, loaded, stored, toRelease, finished}
+use Rattle.lent_moves.specs.Looks.{saidNow}
 
 -- from the numbers s, the numbers t say: worker w made a step and is in the state q
 abbrev pub Moved : List ℕ → ℕ → List ℕ → State → Type 0

@@ -5,7 +5,7 @@ use mathlib.Core.Bool.{Bool, true, false}
 use mathlib.Core.List.{List}
 use mathlib.Core.Path.{_≡_, refl, _∙_, sym, ap, subst}
 use native.Mathlib.Omega.{arith}
-use borrow.Author.Tests.{leb-false, lt-leb, le-leb}
+use borrow.Author.Tests.{leb-false, lt-leb}
 use lib.Dec.{eqb, leb}
 use lib.ListN.{getD, set, length}
 use lib.Seq.{set-getD}
@@ -14,6 +14,7 @@ use Rattle.parts.specs.Numbers.{workers, mostLocks, mostWords, sheets, lastTurn
 use Rattle.parts.specs.Parts as parts
 use Rattle.parts.specs.Parts.{entry0, lock0, word0, next32, readingOf, committedOf, holdsOf, registerOf}
 use Rattle.parts.specs.Pick.{pick, onHolder}
+use Rattle.parts.specs.declared.Answer.{Answer}
 use Rattle.parts.specs.declared.Answer.the-variants.{NotTaken}
 use Rattle.parts.specs.declared.Asks.{Asks}
 use Rattle.parts.specs.declared.Asks.the-variants.{Halt, Go, Touch}
@@ -27,10 +28,6 @@ use Rattle.parts.specs.declared.Holder.the-variants.{Free, By}
 use Rattle.parts.specs.declared.Instr.{Instr}
 use Rattle.parts.specs.declared.LockWord.{LockWord}
 use Rattle.parts.specs.declared.Reading.{Reading}
-use Rattle.parts.specs.declared.Refusal.{Refusal}
-use Rattle.parts.specs.declared.Refusal.the-variants.{NoWorker, WorkerIdle, NotCollected}
-use Rattle.parts.specs.declared.Told.{Told}
-use Rattle.parts.specs.declared.Told.the-variants.{Accepted, Refused}
 use Rattle.parts.specs.declared.Word.{Word}
 use Rattle.steps.specs.Places.{spotOf}
 use Rattle.steps.specs.Try as try
@@ -58,8 +55,9 @@ use Rattle.cells.proofs.Back.{lock-back, word-back, sheet-back, entry-back}
 use Rattle.cells.proofs.Pieces.{length-put, pieces-get}
 use Rattle.cells.proofs.Row.{worker-is}
 use Rattle.cells.proofs.Unpack.{Says, Puts, unpack-lock, unpack-word, unpack-sheet, unpack-entry}
-use Rattle.lent_step.specs.Moves.{toGrab, started, finished}
-use Rattle.lent_step.specs.Points.{ownNow, lockPlace, lockNow, saidNow, registersNow, instrNow, wordPlace, wordNow, entryPlace, entryNow, sheetNow, answerNow, looked, lookNumbers, grabNumbers, lookAgainNumbers, ranOwn, ranSeen, markRead, readMarkNumbers, sumNow, restNow, firstNumbers, readNumbers, followNumbers, entryFilled, committed, commitNumbers, swapNumbers, markNumbers, releaseNumbers, taggedNumbers, stepNumbers}
+use Rattle.lent_moves.specs.Moves.{toGrab, started, finished}
+use Rattle.lent_moves.specs.Looks.{ownNow, lockPlace, lockNow, saidNow, registersNow, instrNow, wordPlace, wordNow, entryPlace, entryNow, sheetNow, answerNow, sumNow, restNow}
+use Rattle.lent_step.specs.Points.{looked, lookNumbers, grabNumbers, lookAgainNumbers, ranOwn, ranSeen, markRead, readMarkNumbers, firstNumbers, readNumbers, followNumbers, entryFilled, committed, commitNumbers, swapNumbers, markNumbers, releaseNumbers, onwardNumbers, stepNumbers}
 use Rattle.lent_step.proofs.Moved.{Moved, moved-grab, moved-again, moved-seen, moved-start, moved-pass, moved-go, moved-halt, moved-touch, moved-log, moved-load, moved-store, moved-release, moved-finish}
 use Rattle.lent_step.proofs.Put.{movedTo, put-alone, put-lock, put-word, put-entry, put-done}
 
@@ -455,166 +453,54 @@ module _ (s : List ℕ) (w : ℕ) (h : numbers ≤ length s) (b : w < workers) w
       (lock-back y (release-fits (lockNow s w) (r .won) (r .sheet) (lock-fits s (lockPlace s w) (omega arith))))
       (moved-finish s w h b (answerNow s w)) (sym (put-lock e (placesOf e w p) (Finished (answerNow s w)) y))
 
--- By the tag: what a worker in the state q comes to, and what it is told.
-abbrev SaysFrom : List ℕ → ℕ → List ℕ → State → Type 0
-SaysFrom s w t q = Says s t (onState q (unpack s) (λ p. steppedOf (unpack s) w p) (λ x. unpack s))
+-- By the tag: where the numbers n say the step of whatever point the state q is at.
+module _ (s : List ℕ) (w : ℕ) where
+  abbrev Onward : List ℕ → State → Type 0
+  Onward n q = (p : Point) → q ≡ UnderWay p → SaysAt s w n p
 
-says-pick : (s : List ℕ) (w : ℕ) (t : Bool) (m n : List ℕ) (p q : State) → SaysFrom s w m p → SaysFrom s w n q → SaysFrom s w (pick t m n) (pick t p q)
-says-pick s w true m n p q a b = a
-says-pick s w false m n p q a b = b
+  onward-pick : (t : Bool) (m n : List ℕ) (p q : State) → Onward m p → Onward n q → Onward (pick t m n) (pick t p q)
+  onward-pick true m n p q a b = a
+  onward-pick false m n p q a b = b
 
-tagged-says :
-    (s : List ℕ) (w : ℕ) → numbers ≤ length s → w < workers →
-    SaysFrom s w (taggedNumbers s w (numberAt s w atTag)) (stateOf (rowOf s w))
-unfolding taggedNumbers stateOf numberAt runNow readNow seenNow
-tagged-says s w h b =
-    let one = says-pick s w in
-    let tag = numberAt s w atTag in
-    one (eqb tag idleTag) _ _ Idle _ (refl, refl)
-    (one (eqb tag lookTag) _ _ (UnderWay _) _ (look-says s w h b)
-    (one (eqb tag grabTag) _ _ (UnderWay _) _ (grab-says s w h b)
-    (one (eqb tag lookAgainTag) _ _ (UnderWay _) _ (look-again-says s w h b)
-    (one (eqb tag readMarkTag) _ _ (UnderWay _) _ (read-mark-says s w h b)
-    (one (eqb tag readTag) _ _ (UnderWay _) _ (read-says s w h b)
-    (one (eqb tag commitTag) _ _ (UnderWay _) _ (commit-says s w h b)
-    (one (eqb tag swapTag) _ _ (UnderWay _) _ (swap-says s w h b)
-    (one (eqb tag markTag) _ _ (UnderWay _) _ (mark-says s w h b)
-    (one (eqb tag releaseTag) _ _ (UnderWay _) (Finished _) (release-says s w h b) (refl, refl))))))))))
+  onward-either : (t : Bool) (n : List ℕ) (p q : State) → Onward n p → Onward n q → Onward n (pick t p q)
+  onward-either true n p q a b = a
+  onward-either false n p q a b = b
 
-step-engine :
-    (e : Engine) (w : ℕ) → w < workers →
-    stepOf e w .engine ≡ onState (workerAt e w .state) e (λ p. steppedOf e w p) (λ x. e)
-unfolding stepOf worker.stepTold
-step-engine e w b = go (workerAt e w .state) refl
-  where
-    go : (q : State) → workerAt e w .state ≡ q → stepOf e w .engine ≡ onState (workerAt e w .state) e (λ p. steppedOf e w p) (λ x. e)
-    go Idle z = simp (lt-leb workers w b, z)
-    go (UnderWay p) z = simp (lt-leb workers w b, z)
-    go (Finished x) z = simp (lt-leb workers w b, z)
+  onward-at : (n : List ℕ) (p : Point) → SaysAt s w n p → Onward n (UnderWay p)
+  onward-at n p h x e = subst (λ (y : Point). SaysAt s w n y) (ap (λ (q : State). onState q Look (λ y. y) (λ a. Look)) e) h
+
+  onward-idle : (n : List ℕ) → Onward n Idle
+  onward-idle n p e = let z : _≡_ {A = ℕ} 0 1 = cc in absurd (omega arith)
+
+  onward-end : (n : List ℕ) (x : Answer) → Onward n (Finished x)
+  onward-end n x p e = let z : _≡_ {A = ℕ} 0 1 = cc in absurd (omega arith)
+
+  onward-says : numbers ≤ length s → w < workers → Onward (onwardNumbers s w (numberAt s w atTag)) (stateOf (rowOf s w))
+  unfolding onwardNumbers stateOf numberAt runNow readNow seenNow
+  onward-says h b =
+      let tag = numberAt s w atTag in
+      onward-either (eqb tag idleTag) _ Idle _ (onward-idle _)
+      (onward-pick (eqb tag lookTag) _ _ (UnderWay _) _ (onward-at _ _ (look-says s w h b))
+      (onward-pick (eqb tag grabTag) _ _ (UnderWay _) _ (onward-at _ _ (grab-says s w h b))
+      (onward-pick (eqb tag lookAgainTag) _ _ (UnderWay _) _ (onward-at _ _ (look-again-says s w h b))
+      (onward-pick (eqb tag readMarkTag) _ _ (UnderWay _) _ (onward-at _ _ (read-mark-says s w h b))
+      (onward-pick (eqb tag readTag) _ _ (UnderWay _) _ (onward-at _ _ (read-says s w h b))
+      (onward-pick (eqb tag commitTag) _ _ (UnderWay _) _ (onward-at _ _ (commit-says s w h b))
+      (onward-pick (eqb tag swapTag) _ _ (UnderWay _) _ (onward-at _ _ (swap-says s w h b))
+      (onward-pick (eqb tag markTag) _ _ (UnderWay _) _ (onward-at _ _ (mark-says s w h b))
+      (onward-either (eqb tag releaseTag) _ (UnderWay _) (Finished _) (onward-at _ _ (release-says s w h b)) (onward-end _ _))))))))))
 
 -- "Step (worker) does one step": of any worker's number
 pub step-says : (s : List ℕ) (w : ℕ) → numbers ≤ length s → Says s (stepNumbers s w) (stepOf (unpack s) w .engine)
-unfolding stepNumbers stepOf
+unfolding stepNumbers stepOf worker.stepTold
 step-says s w h = go (leb workers w) refl
   where
+    by : w < workers → (q : State) → workerAt (unpack s) w .state ≡ q → Says s (stepNumbers s w) (stepOf (unpack s) w .engine)
+    by b Idle e = simp (lt-leb workers w b, e) (refl, refl)
+    by b (UnderWay p) e =
+        simp (lt-leb workers w b, e) (onward-says s w h b p (ap (λ (k : Worker). k .state) (sym (worker-is s w b)) ∙ e))
+    by b (Finished x) e = simp (lt-leb workers w b, e) (refl, refl)
+
     go : (t : Bool) → leb workers w ≡ t → Says s (stepNumbers s w) (stepOf (unpack s) w .engine)
-    go true z = simp z (refl, refl)
-    go false z =
-        let b = leb-false workers w z in
-        let a = tagged-says s w h b in
-        let k = ap (λ (y : Worker). y .state) (worker-is s w b) in
-        let n : stepNumbers s w ≡ taggedNumbers s w (numberAt s w atTag) = simp z in (
-          ap unpack n ∙ a .0 ∙ ap (λ (q : State). onState q (unpack s) (λ p. steppedOf (unpack s) w p) (λ x. unpack s)) (sym k) ∙
-              sym (step-engine (unpack s) w b),
-          ap length n ∙ a .1,
-        )
-
--- what is told, by the tag
-abbrev pub taggedTold : ℕ → Told
-taggedTold tag =
-    pick (eqb tag idleTag) (Refused WorkerIdle)
-    (pick (eqb tag lookTag) Accepted
-    (pick (eqb tag grabTag) Accepted
-    (pick (eqb tag lookAgainTag) Accepted
-    (pick (eqb tag readMarkTag) Accepted
-    (pick (eqb tag readTag) Accepted
-    (pick (eqb tag commitTag) Accepted
-    (pick (eqb tag swapTag) Accepted
-    (pick (eqb tag markTag) Accepted
-    (pick (eqb tag releaseTag) Accepted (Refused NotCollected))))))))))
-
-abbrev told : State → Told
-told q = onState q (Refused WorkerIdle) (λ p. Accepted) (λ x. Refused NotCollected)
-
-told-pick : (t : Bool) (a b : Told) (p q : State) → a ≡ told p → b ≡ told q → pick t a b ≡ told (pick t p q)
-told-pick true a b p q f g = f
-told-pick false a b p q f g = g
-
-tagged-told : (s : List ℕ) (w : ℕ) → taggedTold (numberAt s w atTag) ≡ told (stateOf (rowOf s w))
-unfolding stateOf numberAt
-tagged-told s w =
-    let tag = numberAt s w atTag in
-    told-pick (eqb tag idleTag) _ _ Idle _ refl
-    (told-pick (eqb tag lookTag) _ _ (UnderWay _) _ refl
-    (told-pick (eqb tag grabTag) _ _ (UnderWay _) _ refl
-    (told-pick (eqb tag lookAgainTag) _ _ (UnderWay _) _ refl
-    (told-pick (eqb tag readMarkTag) _ _ (UnderWay _) _ refl
-    (told-pick (eqb tag readTag) _ _ (UnderWay _) _ refl
-    (told-pick (eqb tag commitTag) _ _ (UnderWay _) _ refl
-    (told-pick (eqb tag swapTag) _ _ (UnderWay _) _ refl
-    (told-pick (eqb tag markTag) _ _ (UnderWay _) _ refl
-    (told-pick (eqb tag releaseTag) _ _ (UnderWay _) (Finished _) refl refl)))))))))
-
-step-told : (e : Engine) (w : ℕ) → w < workers → stepOf e w .told ≡ told (workerAt e w .state)
-unfolding stepOf worker.stepTold
-step-told e w b = go (workerAt e w .state) refl
-  where
-    go : (q : State) → workerAt e w .state ≡ q → stepOf e w .told ≡ told (workerAt e w .state)
-    go Idle z = simp (lt-leb workers w b, z)
-    go (UnderWay p) z = simp (lt-leb workers w b, z)
-    go (Finished x) z = simp (lt-leb workers w b, z)
-
-by-tag : (s : List ℕ) (w : ℕ) → w < workers → taggedTold (numberAt s w atTag) ≡ stepOf (unpack s) w .told
-by-tag s w b =
-    tagged-told s w ∙ ap (λ (q : Worker). told (q .state)) (sym (worker-is s w b)) ∙ sym (step-told (unpack s) w b)
-
--- What the call's contract says of the numbers s, left as t, where r was told.
-abbrev pub Gives : List ℕ → List ℕ → ℕ → Told → Type 0
-Gives s t w r =
-    (r ≡ stepOf (unpack s) w .told) × ((t ≡ stepNumbers s w) × (unpack t ≡ stepOf (unpack s) w .engine))
-
-gives :
-    (s t : List ℕ) (w : ℕ) (r : Told) →
-    numbers ≤ length s → r ≡ stepOf (unpack s) w .told → t ≡ stepNumbers s w → Gives s t w r
-gives s t w r h e n = (e, (n, ap unpack n ∙ step-says s w h .0))
-
-pub step-nobody : (s : List ℕ) (w : ℕ) → numbers ≤ length s → workers ≤ w → Gives s s w (Refused NoWorker)
-unfolding stepNumbers stepOf
-step-nobody s w h b = let z = le-leb workers w b in gives s s w _ h (simp z) (simp z)
-
--- at the tag k
-pub step-at :
-    (k : ℕ) (s t : List ℕ) (w tag : ℕ) (r : Told) →
-    numbers ≤ length s → w < workers → tag ≡ numberAt s w atTag → tag ≡ k → r ≡ taggedTold k → t ≡ taggedNumbers s w k → Gives s t w r
-unfolding stepNumbers
-step-at k s t w tag r h b e z x n =
-    let y : k ≡ numberAt s w atTag = sym z ∙ e in
-    gives s t w r h
-    (x ∙ ap taggedTold y ∙ by-tag s w b)
-    (n ∙ ap (λ (m : ℕ). taggedNumbers s w m) y ∙ sym (simp (lt-leb workers w b)))
-
--- "A refusal returns its number and place, the state as it came": a refused step leaves every number
-module _ (s : List ℕ) (w : ℕ) (r : Refusal) where
-  abbrev Stays : List ℕ → Told → Type 0
-  Stays n t = t ≡ Refused r → n ≡ s
-
-  stays-pick : (t : Bool) (m n : List ℕ) (a b : Told) → Stays m a → Stays n b → Stays (pick t m n) (pick t a b)
-  stays-pick true m n a b f g = f
-  stays-pick false m n a b f g = g
-
-  accepts : (n : List ℕ) → Stays n Accepted
-  accepts n e = let z : _≡_ {A = ℕ} 0 1 = cc in absurd (omega arith)
-
-  tagged-stays : (tag : ℕ) → Stays (taggedNumbers s w tag) (taggedTold tag)
-  unfolding taggedNumbers
-  tagged-stays tag =
-      stays-pick (eqb tag idleTag) _ _ _ _ (λ e. refl)
-      (stays-pick (eqb tag lookTag) _ _ _ _ (accepts _)
-      (stays-pick (eqb tag grabTag) _ _ _ _ (accepts _)
-      (stays-pick (eqb tag lookAgainTag) _ _ _ _ (accepts _)
-      (stays-pick (eqb tag readMarkTag) _ _ _ _ (accepts _)
-      (stays-pick (eqb tag readTag) _ _ _ _ (accepts _)
-      (stays-pick (eqb tag commitTag) _ _ _ _ (accepts _)
-      (stays-pick (eqb tag swapTag) _ _ _ _ (accepts _)
-      (stays-pick (eqb tag markTag) _ _ _ _ (accepts _)
-      (stays-pick (eqb tag releaseTag) _ _ _ _ (accepts _) (λ e. refl))))))))))
-
-  pub step-stays : stepOf (unpack s) w .told ≡ Refused r → stepNumbers s w ≡ s
-  unfolding stepNumbers
-  step-stays e = go (leb workers w) refl
-    where
-      go : (t : Bool) → leb workers w ≡ t → stepNumbers s w ≡ s
-      go true z = simp z
-      go false z =
-          let b = leb-false workers w z in
-          simp z (tagged-stays (numberAt s w atTag) (by-tag s w b ∙ e))
+    go true e = simp e (refl, refl)
+    go false e = by (leb-false workers w e) (workerAt (unpack s) w .state) refl

@@ -2,12 +2,13 @@
 use Prim.Native.Nat.{ℕ, _+_, _-_, _*_, _%_, _^_}
 use mathlib.Core.Bool.{Bool, true, false}
 use mathlib.Core.List.{List}
-use lib.Dec.{eqb, leb}
+use lib.Dec.{eqb}
 use lib.ListN.{getD}
 use Rattle.parts.specs.Instr.{overOf, wordOf}
-use Rattle.parts.specs.Numbers.{workers, mostLocks, mostWords, sheets, lastTurn}
+use Rattle.parts.specs.Numbers.{mostLocks, mostWords, sheets, lastTurn}
 use Rattle.parts.specs.Parts.{next32, instr0, entry0, readingOf, registerOf, holdsOf, swapOf, grabOf, releaseOf}
 use Rattle.parts.specs.Pick.{pick, onHolder, onFill}
+use Rattle.parts.specs.Told.{onTold}
 use Rattle.parts.specs.declared.Answer.{Answer}
 use Rattle.parts.specs.declared.Answer.the-variants.{NotTaken}
 use Rattle.parts.specs.declared.Entry.{Entry}
@@ -19,47 +20,14 @@ use Rattle.parts.specs.declared.Registers.{Registers}
 use Rattle.parts.specs.declared.Word.{Word}
 use Rattle.steps.specs.Places.{runSpot}
 use Rattle.steps.specs.Try.{answerOf}
+use Rattle.engine.specs.Calls.{stepTold}
 use Rattle.engine.specs.State.{sheet0, workerAt, lockAt, wordAt}
 use Rattle.engine.specs.Step.{instrAt, entryAt}
 use Rattle.engine.specs.declared.Sheet.{Sheet}
-use Rattle.cells.specs.Codes.{flagOf, atTag, atWon, atNew, idleTag, lookTag, grabTag, lookAgainTag, readMarkTag, readTag, commitTag, swapTag, markTag, releaseTag}
+use Rattle.cells.specs.Codes.{flagOf, atTag, atWon, atNew, lookTag, grabTag, lookAgainTag, readMarkTag, readTag, commitTag, swapTag, markTag}
 use Rattle.cells.specs.Layout.{unpack, numberAt, runNow, readNow, seenNow, putLock, putWord, putSheet, putEntry}
-use Rattle.lent_step.specs.Moves.{toGrab, toLookAgain, toReadMark, started, passed, went, halted, touched, logged, loaded, stored, toRelease, finished}
-
--- What worker w looks at: its own sheet, where its lock stands and the lock word there, what its halt said; of its run, the registers,
--- the instruction, that one's word, and the log entry
-abbrev pub ownNow : List ℕ → ℕ → ℕ
-ownNow s w = workerAt (unpack s) w .own
-
-abbrev pub lockPlace : List ℕ → ℕ → ℕ
-lockPlace s w = workerAt (unpack s) w .lock % mostLocks
-
-abbrev pub lockNow : List ℕ → ℕ → LockWord
-lockNow s w = lockAt (unpack s) (lockPlace s w)
-
-abbrev pub saidNow : List ℕ → ℕ → Bool
-saidNow s w = flagOf (numberAt s w atNew)
-
-abbrev pub registersNow : List ℕ → ℕ → Registers
-registersNow s w = runNow s w .registers
-
-unfoldable pub instrNow : List ℕ → ℕ → Instr
-instrNow s w = getD (unpack s .program) (instrAt (runSpot (runNow s w))) instr0
-
-abbrev pub wordPlace : Instr → ℕ
-wordPlace i = wordOf i % mostWords
-
-abbrev pub wordNow : List ℕ → Instr → Word
-wordNow s i = wordAt (unpack s) (wordPlace i)
-
-abbrev pub entryPlace : List ℕ → ℕ → ℕ
-entryPlace s w = entryAt (runSpot (runNow s w))
-
-abbrev pub entryNow : List ℕ → ℕ → Entry
-entryNow s w = getD (unpack s .entry) (entryPlace s w) entry0
-
-abbrev pub sheetNow : List ℕ → ℕ → Sheet
-sheetNow s i = getD (unpack s .sheet) (i % sheets) sheet0
+use Rattle.lent_moves.specs.Looks.{ownNow, lockPlace, lockNow, saidNow, registersNow, instrNow, wordPlace, wordNow, entryPlace, entryNow, sheetNow, sumNow, restNow, answerNow}
+use Rattle.lent_moves.specs.Moves.{toGrab, toLookAgain, toReadMark, started, passed, went, halted, touched, logged, loaded, stored, toRelease, finished}
 
 -- 1. Look, by the lock word that it finds
 unfoldable pub looked : List ℕ → ℕ → LockWord → List ℕ
@@ -95,12 +63,6 @@ unfoldable pub readMarkNumbers : List ℕ → ℕ → List ℕ
 readMarkNumbers s w = markRead s w (sheetNow s (ownNow s w) .done) (seenNow s w)
 
 -- 5. Run: the first step of instruction i
-abbrev pub sumNow : List ℕ → ℕ → Instr → ℕ
-sumNow s w i = (registerOf (registersNow s w) (i .a) + registerOf (registersNow s w) (i .b)) % 2 ^ 32
-
-abbrev pub restNow : List ℕ → ℕ → Instr → ℕ
-restNow s w i = (registerOf (registersNow s w) (i .a) + 2 ^ 32 - registerOf (registersNow s w) (i .b)) % 2 ^ 32
-
 unfoldable pub firstNumbers : List ℕ → ℕ → Instr → List ℕ
 firstNumbers s w i =
     pick (eqb (i .op) 0) (halted s w (eqb (i .a) 1))
@@ -144,27 +106,22 @@ markNumbers s w =
     putSheet (toRelease s w) (runNow s w .sheet % sheets) (record { length = sheetNow s (runNow s w .sheet) .length; done = true })
 
 -- 7. Release
-abbrev pub answerNow : List ℕ → ℕ → Answer
-answerNow s w = answerOf (runNow s w) (ownNow s w) (saidNow s w)
-
 unfoldable pub releaseNumbers : List ℕ → ℕ → List ℕ
 releaseNumbers s w =
     putLock (finished s w (answerNow s w)) (lockPlace s w) (releaseOf (lockNow s w) (runNow s w .won) (runNow s w .sheet))
 
--- a step of worker w, which has this tag; the last one where none of these is its tag
-unfoldable pub taggedNumbers : List ℕ → ℕ → ℕ → List ℕ
-taggedNumbers s w tag =
-    pick (eqb tag idleTag) s
-    (pick (eqb tag lookTag) (lookNumbers s w)
+-- a step of a worker under way that has this tag
+unfoldable pub onwardNumbers : List ℕ → ℕ → ℕ → List ℕ
+onwardNumbers s w tag =
+    pick (eqb tag lookTag) (lookNumbers s w)
     (pick (eqb tag grabTag) (grabNumbers s w)
     (pick (eqb tag lookAgainTag) (lookAgainNumbers s w)
     (pick (eqb tag readMarkTag) (readMarkNumbers s w)
     (pick (eqb tag readTag) (readNumbers s w)
     (pick (eqb tag commitTag) (commitNumbers s w)
     (pick (eqb tag swapTag) (swapNumbers s w)
-    (pick (eqb tag markTag) (markNumbers s w)
-    (pick (eqb tag releaseTag) (releaseNumbers s w) s)))))))))
+    (pick (eqb tag markTag) (markNumbers s w) (releaseNumbers s w))))))))
 
--- the whole call: a worker above 7, an idle one and a finished one change nothing
+-- "A refusal returns .. the state as it came"
 unfoldable pub stepNumbers : List ℕ → ℕ → List ℕ
-stepNumbers s w = pick (leb workers w) s (taggedNumbers s w (numberAt s w atTag))
+stepNumbers s w = onTold (stepTold (unpack s) w) (onwardNumbers s w (numberAt s w atTag)) (λ r. s)

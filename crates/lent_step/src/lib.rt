@@ -6,8 +6,6 @@ ghost use Rattle.engine.specs.Calls.{stepOf};
 ghost use Rattle.cells.specs.Layout.{numbers, unpack};
 ghost use Rattle.lent_step.specs.Points.{stepNumbers};
 
-mod looks;
-mod moves;
 mod points;
 
 use cells::worker::TAG;
@@ -29,42 +27,15 @@ pub fn step(s: &mut [u32], w: u32) -> Told
     let tag = cells::get_number(s, i, TAG);
     match tag {
         0 => Told::Refused(Refusal::WorkerIdle),
-        1 => {
-            points::look(s, i);
-            Told::Accepted
-        }
-        2 => {
-            points::grab(s, i);
-            Told::Accepted
-        }
-        3 => {
-            points::look_again(s, i);
-            Told::Accepted
-        }
-        4 => {
-            points::read_mark(s, i);
-            Told::Accepted
-        }
-        5 => {
-            points::read(s, i);
-            Told::Accepted
-        }
-        6 => {
-            points::commit(s, i);
-            Told::Accepted
-        }
-        7 => {
-            points::swap(s, i);
-            Told::Accepted
-        }
-        8 => {
-            points::mark(s, i);
-            Told::Accepted
-        }
-        9 => {
-            points::release(s, i);
-            Told::Accepted
-        }
+        1 => points::look(s, i),
+        2 => points::grab(s, i),
+        3 => points::look_again(s, i),
+        4 => points::read_mark(s, i),
+        5 => points::read(s, i),
+        6 => points::commit(s, i),
+        7 => points::swap(s, i),
+        8 => points::mark(s, i),
+        9 => points::release(s, i),
         _ => Told::Refused(Refusal::NotCollected),
     }
 }

@@ -1,18 +1,19 @@
 // A step at each point, straight on the numbers: what the point looks at is read, and what it changes is written. Each is the
-// definition of specs/Points.antt that it names.
+// definition of specs/Points.antt that it names, and tells that it was accepted.
 ghost use mathlib.Core.Path.{_≡_};
 ghost use Prim.Native.Nat.{_≤_, _<_};
 ghost use lib.ListN.{length};
 ghost use Rattle.parts.specs.Numbers.{workers, entries};
+ghost use Rattle.parts.specs.declared.Told.the-variants.{Accepted};
 ghost use Rattle.cells.specs.Layout.{numbers};
 ghost use Rattle.lent_step.specs.Points.{looked, lookNumbers, grabNumbers, lookAgainNumbers, ranOwn, ranSeen, markRead, readMarkNumbers, firstNumbers, readNumbers, followNumbers, entryFilled, committed, commitNumbers, swapNumbers, markNumbers, releaseNumbers};
-use crate::looks;
-use crate::moves;
 use cells::worker::COMMIT;
 use cells::worker::NEW;
 use cells::worker::RELEASE;
 use cells::worker::WON;
 use engine::Sheet;
+use lent_moves::looks;
+use lent_moves::moves;
 use parts::Answer;
 use parts::Entry;
 use parts::Fill;
@@ -21,6 +22,7 @@ use parts::Instr;
 use parts::LAST_TURN;
 use parts::LockWord;
 use parts::Reading;
+use parts::Told;
 
 // What Look does with the lock word that it finds.
 fn look_at(s: &mut [u32], w: usize, l: LockWord)
@@ -40,17 +42,20 @@ fn look_at(s: &mut [u32], w: usize, l: LockWord)
     }
 }
 
-pub fn look(s: &mut [u32], w: usize)
+pub fn look(s: &mut [u32], w: usize) -> Told
     requires { ⌜ (numbers ≤ length (now s)) × (w < workers) ⌝ }
+    ensures { λ r. ⌜ r ≡ Accepted ⌝ }
     ensures { λ _. ⌜ now (s .exit) ≡ lookNumbers (now (s .entry)) w ⌝ }
 {
     let j = looks::lock_place(s, w);
     let l = cells::get_lock(s, j);
     look_at(s, w, l);
+    Told::Accepted
 }
 
-pub fn grab(s: &mut [u32], w: usize)
+pub fn grab(s: &mut [u32], w: usize) -> Told
     requires { ⌜ (numbers ≤ length (now s)) × (w < workers) ⌝ }
+    ensures { λ r. ⌜ r ≡ Accepted ⌝ }
     ensures { λ _. ⌜ now (s .exit) ≡ grabNumbers (now (s .entry)) w ⌝ }
 {
     let j = looks::lock_place(s, w);
@@ -61,15 +66,18 @@ pub fn grab(s: &mut [u32], w: usize)
     moves::to_look_again(s, w, won);
     let next = l.grab(seen, own);
     cells::put_lock(s, j, next);
+    Told::Accepted
 }
 
-pub fn look_again(s: &mut [u32], w: usize)
+pub fn look_again(s: &mut [u32], w: usize) -> Told
     requires { ⌜ (numbers ≤ length (now s)) × (w < workers) ⌝ }
+    ensures { λ r. ⌜ r ≡ Accepted ⌝ }
     ensures { λ _. ⌜ now (s .exit) ≡ lookAgainNumbers (now (s .entry)) w ⌝ }
 {
     let j = looks::lock_place(s, w);
     let l = cells::get_lock(s, j);
     moves::to_read_mark(s, w, l);
+    Told::Accepted
 }
 
 fn run_own(s: &mut [u32], w: usize)
@@ -111,8 +119,9 @@ fn mark_read(s: &mut [u32], w: usize, done: bool, l: LockWord)
     run_seen(s, w, l, own);
 }
 
-pub fn read_mark(s: &mut [u32], w: usize)
+pub fn read_mark(s: &mut [u32], w: usize) -> Told
     requires { ⌜ (numbers ≤ length (now s)) × (w < workers) ⌝ }
+    ensures { λ r. ⌜ r ≡ Accepted ⌝ }
     ensures { λ _. ⌜ now (s .exit) ≡ readMarkNumbers (now (s .entry)) w ⌝ }
 {
     let own = looks::own(s, w);
@@ -120,6 +129,7 @@ pub fn read_mark(s: &mut [u32], w: usize)
     let sheet = cells::get_sheet(s, j);
     let l = cells::get_seen(s, w);
     mark_read(s, w, sheet.done, l);
+    Told::Accepted
 }
 
 // The first step of instruction i.
@@ -159,12 +169,14 @@ fn first(s: &mut [u32], w: usize, i: Instr)
     }
 }
 
-pub fn read(s: &mut [u32], w: usize)
+pub fn read(s: &mut [u32], w: usize) -> Told
     requires { ⌜ (numbers ≤ length (now s)) × (w < workers) ⌝ }
+    ensures { λ r. ⌜ r ≡ Accepted ⌝ }
     ensures { λ _. ⌜ now (s .exit) ≡ readNumbers (now (s .entry)) w ⌝ }
 {
     let i = looks::instr(s, w);
     first(s, w, i);
+    Told::Accepted
 }
 
 // What follows of the value that the log entry holds.
@@ -218,18 +230,21 @@ fn commit_to(s: &mut [u32], w: usize, i: Instr, j: usize, e: Entry)
     fill(s, j, e, read);
 }
 
-pub fn commit(s: &mut [u32], w: usize)
+pub fn commit(s: &mut [u32], w: usize) -> Told
     requires { ⌜ (numbers ≤ length (now s)) × (w < workers) ⌝ }
+    ensures { λ r. ⌜ r ≡ Accepted ⌝ }
     ensures { λ _. ⌜ now (s .exit) ≡ commitNumbers (now (s .entry)) w ⌝ }
 {
     let i = looks::instr(s, w);
     let j = looks::entry_place(s, w);
     let e = cells::get_entry(s, j);
     commit_to(s, w, i, j, e);
+    Told::Accepted
 }
 
-pub fn swap(s: &mut [u32], w: usize)
+pub fn swap(s: &mut [u32], w: usize) -> Told
     requires { ⌜ (numbers ≤ length (now s)) × (w < workers) ⌝ }
+    ensures { λ r. ⌜ r ≡ Accepted ⌝ }
     ensures { λ _. ⌜ now (s .exit) ≡ swapNumbers (now (s .entry)) w ⌝ }
 {
     let i = looks::instr(s, w);
@@ -240,10 +255,12 @@ pub fn swap(s: &mut [u32], w: usize)
     moves::pass(s, w, 0);
     let next = x.swap(entry, new);
     cells::put_word(s, j, next);
+    Told::Accepted
 }
 
-pub fn mark(s: &mut [u32], w: usize)
+pub fn mark(s: &mut [u32], w: usize) -> Told
     requires { ⌜ (numbers ≤ length (now s)) × (w < workers) ⌝ }
+    ensures { λ r. ⌜ r ≡ Accepted ⌝ }
     ensures { λ _. ⌜ now (s .exit) ≡ markNumbers (now (s .entry)) w ⌝ }
 {
     let run = cells::get_run(s, w);
@@ -255,10 +272,12 @@ pub fn mark(s: &mut [u32], w: usize)
     };
     moves::step_to(s, w, RELEASE);
     cells::put_sheet(s, j, done);
+    Told::Accepted
 }
 
-pub fn release(s: &mut [u32], w: usize)
+pub fn release(s: &mut [u32], w: usize) -> Told
     requires { ⌜ (numbers ≤ length (now s)) × (w < workers) ⌝ }
+    ensures { λ r. ⌜ r ≡ Accepted ⌝ }
     ensures { λ _. ⌜ now (s .exit) ≡ releaseNumbers (now (s .entry)) w ⌝ }
 {
     let j = looks::lock_place(s, w);
@@ -268,4 +287,5 @@ pub fn release(s: &mut [u32], w: usize)
     moves::finish(s, w, answer);
     let next = l.release(run.won, run.sheet);
     cells::put_lock(s, j, next);
+    Told::Accepted
 }

@@ -1,6 +1,7 @@
-//! The second program's engine and the archive's, side by side.
+//! The second program's engine and the archive's, side by side, and a third
+//! one beside them where one is given.
 
-use crate::told::{by_archive, by_second, Told};
+use crate::told::{Archive, Calls, Second, Told};
 use chantgarden::lent::NUMBERS;
 use second::engine::Engine;
 use second::script::{Call, LONGEST_BYTES};
@@ -14,20 +15,25 @@ const UNTOUCHED: u32 = 0xA5A5_A5A5;
 const WORDS_AFTER: u64 = 8;
 const SHEETS_AFTER: u64 = 512;
 
-/// A call on which the two differ.
+/// A call on which they differ.
 #[derive(Debug)]
 pub struct Difference {
     number: u64,
     call: String,
     second: Told,
     archive: Told,
+    third: Option<Told>,
 }
 
 impl fmt::Display for Difference {
     fn fmt(&self, out: &mut fmt::Formatter<'_>) -> fmt::Result {
         writeln!(out, "call {}: {}", self.number, self.call)?;
         writeln!(out, "second:  {:?}", self.second)?;
-        write!(out, "archive: {:?}", self.archive)
+        write!(out, "archive: {:?}", self.archive)?;
+        match &self.third {
+            Some(third) => write!(out, "\nthird:   {third:?}"),
+            None => Ok(()),
+        }
     }
 }
 
@@ -39,13 +45,14 @@ impl Difference {
     }
 }
 
-/// Both engines, and what was done with them.
+/// The engines, and what was done with them.
 pub struct Pair {
-    pub second: Engine,
+    second: Second,
     /// The archive's state, and some numbers beyond it.
-    lent: Vec<u32>,
+    archive: Archive,
     /// What it was before a call that may not change it.
     before: Vec<u32>,
+    third: Option<Box<dyn Calls>>,
     pub calls: u64,
     /// Readings between the calls.
     pub readings: u64,
@@ -54,21 +61,27 @@ pub struct Pair {
 }
 
 impl Pair {
-    /// Both in the blank state.
-    pub fn new() -> Pair {
+    /// All in the blank state, as a third one has to be.
+    pub fn new(third: Option<Box<dyn Calls>>) -> Pair {
         let mut lent = vec![0; NUMBERS];
         lent.resize(NUMBERS + BEYOND, UNTOUCHED);
         Pair {
-            second: Engine::blank(),
+            second: Second(Engine::blank()),
             before: lent.clone(),
-            lent,
+            archive: Archive(lent),
+            third,
             calls: 0,
             readings: 0,
             told: [0; 32],
         }
     }
 
-    /// One call on both; tells whether it was accepted. A step is one step.
+    /// The second program's engine, from whose state random calls are made.
+    pub fn second(&self) -> &Engine {
+        &self.second.0
+    }
+
+    /// One call on all; tells whether it was accepted. A step is one step.
     pub fn compare(&mut self, call: &Call) -> Result<bool, Difference> {
         self.calls += 1;
         let number = self.compare_one(call)?;
@@ -88,23 +101,24 @@ impl Pair {
     /// beyond the state, which the next such call finds out.
     fn compare_one(&mut self, call: &Call) -> Result<u32, Difference> {
         let fill = self.calls as u8;
-        let second = by_second(&mut self.second, call, fill);
+        let second = Told::by(&mut self.second, call, fill);
         let number = second.number();
         let kept = number != 0 || reads(call);
         if kept {
-            self.before[..NUMBERS].copy_from_slice(&self.lent[..NUMBERS]);
+            self.before[..NUMBERS].copy_from_slice(&self.archive.0[..NUMBERS]);
         }
-        let archive = by_archive(&mut self.lent, call, fill);
+        let archive = Told::by(&mut self.archive, call, fill);
         if matches!(call, Call::Setup(_)) {
             self.before[..NUMBERS].fill(0);
         }
-        if kept && self.before != self.lent {
-            let at = (0..self.lent.len()).find(|&at| self.before[at] != self.lent[at]);
+        if kept && self.before != self.archive.0 {
+            let mut both = self.before.iter().zip(&self.archive.0);
+            let at = both.position(|(before, after)| before != after);
             let at = at.unwrap_or(0);
             let call = format!("{call}: number {at} of the state is changed");
-            return self.difference(call, second, archive);
+            return self.difference(call, second, archive, None);
         }
-        self.equal(call, second, archive)?;
+        self.equal(call, fill, second, archive)?;
         Ok(number)
     }
 
@@ -134,38 +148,59 @@ impl Pair {
     fn compare_reading(&mut self, call: &Call) -> Result<bool, Difference> {
         self.readings += 1;
         let fill = self.readings as u8;
-        let second = by_second(&mut self.second, call, fill);
-        let archive = by_archive(&mut self.lent, call, fill);
+        let second = Told::by(&mut self.second, call, fill);
+        let archive = Told::by(&mut self.archive, call, fill);
         let accepted = second.number() == 0;
-        self.equal(call, second, archive)?;
+        self.equal(call, fill, second, archive)?;
         Ok(accepted)
     }
 
-    fn equal(&self, call: &Call, second: Told, archive: Told) -> Result<(), Difference> {
-        if second == archive {
+    /// The two told the same, and so does a third one, on the same call.
+    fn equal(
+        &mut self,
+        call: &Call,
+        fill: u8,
+        second: Told,
+        archive: Told,
+    ) -> Result<(), Difference> {
+        let third = self.third.as_deref_mut();
+        let third = third.map(|third| Told::by(third, call, fill));
+        if second == archive && third.as_ref().is_none_or(|third| *third == archive) {
             return Ok(());
         }
-        self.difference(call.to_string(), second, archive)
+        self.difference(call.to_string(), second, archive, third)
     }
 
-    fn difference<T>(&self, call: String, second: Told, archive: Told) -> Result<T, Difference> {
+    fn difference<T>(
+        &self,
+        call: String,
+        second: Told,
+        archive: Told,
+        third: Option<Told>,
+    ) -> Result<T, Difference> {
         let number = self.calls;
         Err(Difference {
             number,
             call,
             second,
             archive,
+            third,
         })
+    }
+
+    /// How many calls there were, and how many of them were refused.
+    pub fn counts(&self) -> String {
+        let (calls, readings) = (self.calls, self.readings);
+        let kinds = self.told[1..].iter().filter(|&&times| times > 0).count();
+        let refused = calls - self.told[0];
+        format!("{calls} calls, {refused} of them refused with {kinds} numbers, and {readings} readings between them")
     }
 
     /// Makes one step on the archive's engine alone, of the first worker
     /// that can make one, where there is one.
     #[cfg(test)]
     pub fn one_step_apart(&mut self) -> bool {
-        (0..Engine::WORKERS as u32).any(|worker| {
-            let step = Call::Step { worker, times: 1 };
-            by_archive(&mut self.lent, &step, 0).number() == 0
-        })
+        (0..Engine::WORKERS as u32).any(|worker| self.archive.step(worker).number == 0)
     }
 }
 

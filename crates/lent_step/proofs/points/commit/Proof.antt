@@ -1,4 +1,5 @@
 -- By what the callees ensure.
+use mathlib.Core.Path.{refl}
 use borrow.Author.Needs.{needs}
 use Rattle.lent_step.specs.Points.{commitNumbers}
 use Rattle.lent_step.proofs.points.commit.Statement.{statement}
@@ -14,4 +15,4 @@ commit-spec =
     (λ c κs. search needs)
     (λ c κs. search needs)
     (λ c. search needs)
-    (λ c. cc))
+    (λ c. (refl, cc)))

@@ -21,7 +21,7 @@ follow-spec =
     (λ c. c .before .before .store2 .ensures ∙ simp (c .before .before .before .before .get-register3 .ensures) (search laws))
     (λ c κs. search needs)
     (λ c. search needs)
-    (λ c. c .before .before .load .ensures ∙ search laws)
+    (λ c. search laws)
     (λ c. search needs)
     (λ c. c .before .before .store .ensures ∙ simp (c .before .before .before .before .get-register .ensures) (search laws))
     (λ c. search needs)

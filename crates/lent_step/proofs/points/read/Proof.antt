@@ -1,4 +1,5 @@
 -- By what the callees ensure.
+use mathlib.Core.Path.{refl}
 use borrow.Author.Needs.{needs}
 use Rattle.lent_step.specs.Points.{readNumbers}
 use Rattle.lent_step.proofs.points.read.Statement.{statement}
@@ -12,4 +13,4 @@ read-spec =
     (λ c κs. search needs)
     (λ c κs. search needs)
     (λ c. search needs)
-    (λ c. cc))
+    (λ c. (refl, cc)))

@@ -1,4 +1,5 @@
 -- By what the callees ensure.
+use mathlib.Core.Path.{refl}
 use borrow.Author.Needs.{needs}
 use Rattle.lent_step.specs.Points.{swapNumbers}
 use Rattle.lent_step.proofs.points.swap.Statement.{statement}
@@ -18,4 +19,4 @@ swap-spec =
     (λ c κs. search needs)
     (λ c κs. search needs)
     (λ c. search needs)
-    (λ c. cc))
+    (λ c. (refl, cc)))

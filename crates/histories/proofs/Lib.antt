@@ -1,0 +1,4 @@
+pub mod map
+pub mod rules
+pub mod simulation
+pub mod demand

@@ -1,0 +1,1 @@
+// Demand 3, over all histories. No code.

@@ -1,0 +1,1 @@
+// Histories: the calls that were made, and the state after them. No code.

@@ -1,1 +1,0 @@
-// The promises: theorems about the nine calls. No code.

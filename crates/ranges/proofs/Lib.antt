@@ -1,0 +1,9 @@
+pub mod Frame
+pub mod Laid
+pub mod Effect
+pub mod Taken
+pub mod Keep
+pub mod Bites
+pub mod Fresh
+pub mod Programs
+pub mod Gave

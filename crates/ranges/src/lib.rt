@@ -1,0 +1,1 @@
+// The ranges of every state that the calls gave. No code.

@@ -1,0 +1,1 @@
+// Each refusal exactly when, and what a refused call leaves. No code.

@@ -1,0 +1,1 @@
+// The example table, and the eight instructions worked. No code.

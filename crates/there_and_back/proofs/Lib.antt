@@ -1,0 +1,5 @@
+pub mod Kept
+pub mod Show
+pub mod Park
+pub mod There
+pub mod Exhibit

@@ -1,0 +1,1 @@
+// Records there and back: show and begin, park and setup. No code.
