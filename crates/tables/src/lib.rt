@@ -1,1 +1,1 @@
-// The example table. No code.
+// The example table, and the eight instructions worked. No code.
