@@ -1,4 +1,5 @@
--- A run of a sheet that has let go of its lock changes nothing: late helpers are harmless.
+-- A run of a sheet that has let go of its lock changes no word and no log entry: late helpers are harmless (their mark: Marks; their
+-- release: Releases).
 use Prim.Native.Nat.{ℕ, suc, _≤_, _<_}
 use mathlib.Core.Path.{_≡_, refl, sym, ap, _∙_, subst}
 use mathlib.Core.Logic.{⊎-elim}
