@@ -23,7 +23,7 @@ use Rattle.steps.specs.Worker as worker
 use Rattle.engine.specs.Calls.{beginTold, collectOf, readLockOf, readWordOf}
 use Rattle.past.specs.Past.{Begin, steps}
 use Rattle.tables.specs.Table.{setupS, jobA, ranYes}
-use Rattle.cells.specs.Codes.{atRegister, answerOf, stateOf, workerNumbers}
+use Rattle.cells.specs.Codes.{atRegister, answerIn, stateIn, workerNumbers}
 use Rattle.cells.specs.Layout.{numbers, unpack, numberAt, runNow, readNow, seenNow, putNumber, putSizes, blanked}
 use Rattle.cells.specs.Pieces.{tab, piecesOf, putPiece}
 use Rattle.lent_moves.specs.Moves.{steppedTo, toGrab, toLookAgain, toReadMark, cleared, started, passed, went, halted, holding, logged, loaded, stored, finished}
@@ -64,7 +64,7 @@ record RowA (s : List ℕ) : Type 0 where
   left : LentStands (lentAll s (Begin 0 0 jobA ∷ steps 14 0)) 6 1 1 0 0
 
 computed : RowA (filledNumbers zeros setupS)
-unfolding wordsFrom wordOf lay parts.grabOf parts.releaseOf parts.holdsOf parts.swapOf registerOf wornOf answerNumber refusalNumber refusalPlace u32sOf badlyFormed codeTold instrTold instrsOf jobTold straysAt guardsTold setupTold turnsTold anyOf inUseOf lowestOf helpedOf try.answerOf worker.beganOf worker.beginTold worker.collectTold worker.stepTold beginTold collectOf readLockOf readWordOf setupS jobA answerOf stateOf workerNumbers unpack putSizes tab piecesOf putPiece numberAt putNumber runNow readNow seenNow atRegister steppedTo toGrab toLookAgain toReadMark cleared started passed went halted holding logged loaded stored finished instrNow looked lookNumbers grabNumbers lookAgainNumbers ranOwn ranSeen markRead readMarkNumbers firstNumbers readNumbers followNumbers entryFilled committed commitNumbers swapNumbers markNumbers releaseNumbers onwardNumbers stepNumbers putAll filledNumbers copiedNumbers begunNumbers beginNumbers lentAll lentAfter zeros refusalReply
+unfolding wordsFrom wordOf lay parts.grabOf parts.releaseOf parts.holdsOf parts.swapOf registerOf wornOf answerNumber refusalNumber refusalPlace u32sOf badlyFormed codeTold instrTold instrsOf jobTold straysAt guardsTold setupTold turnsTold anyOf inUseOf lowestOf helpedOf try.answerOf worker.beganOf worker.beginByState worker.collectByState worker.stepByState beginTold collectOf readLockOf readWordOf setupS jobA answerIn stateIn workerNumbers unpack putSizes tab piecesOf putPiece numberAt putNumber runNow readNow seenNow atRegister steppedTo toGrab toLookAgain toReadMark cleared started passed went halted holding logged loaded stored finished instrNow looked lookNumbers grabNumbers lookAgainNumbers ranOwn ranSeen markRead readMarkNumbers firstNumbers readNumbers followNumbers entryFilled committed commitNumbers swapNumbers markNumbers releaseNumbers onwardNumbers stepNumbers putAll filledNumbers copiedNumbers begunNumbers beginNumbers lentAll lentAfter zeros refusalReply
 computed = record { before = refl; told = refl; left = record { word = refl; lock = refl } }
 
 pub row-a : LentEnds (Begin 0 0 jobA ∷ []) 0 (record { more = 14; answer = ranYes; steps = 14; value = 6; count = 1; turn = 1 })

@@ -19,14 +19,14 @@ use Rattle.parts.specs.declared.Refusal.the-variants.{NoWorker, NoLock, WorkerU
 use Rattle.parts.specs.declared.Told.{Told}
 use Rattle.parts.specs.declared.Told.the-variants.{Accepted, Refused}
 use Rattle.parts.proofs.Order.{neither, not-isnt}
-use Rattle.records.specs.Bytes.{u32sBytes, kindField}
+use Rattle.records.specs.Bytes.{wrongLength, u32sBytes, kindField}
 use Rattle.records.specs.Job.{jobKind, jobOf, badlyFormed, endsOtherwise, straysAt, noJobLength}
 use Rattle.records.specs.Setup.{setupKind, locksField, wordsField, guardsField, turnsField, setupLength, outside}
 use Rattle.records.proofs.Fours.{instrs-length, u32s-length, code-length, bytes-length}
 use Rattle.engine.specs.Calls.{isFree, showTold, showOf, parkTold, parkOf}
 use Rattle.engine.specs.State.{lockAt, freeSheet, lockCount, wordCount, locksOf, wordsOf, baseOf, programLength, programOf, sheetRecord, stateRecord}
 use Rattle.engine.specs.declared.Engine.{Engine}
-use Rattle.refusals.specs.Orders.{stateOf, isIdle, isUnderWay, isFinished, wrongLength, codeRows, beginRows, stepRows, collectRows, dropRows, guardRows, turnRows, setupRows, wordRows, lockRows, showRows, isHeld, heldRows, parkRows, Given}
+use Rattle.refusals.specs.Orders.{stateOf, isIdle, isUnderWay, isFinished, codeRows, beginRows, stepRows, collectRows, dropRows, guardRows, turnRows, setupRows, wordRows, lockRows, showRows, isHeld, heldRows, parkRows, Given}
 use Rattle.there_and_back.proofs.Park.{wrote}
 use Rattle.refusals.proofs.Refusals.{exactly}
 use Rattle.carried.specs.Fits.{Fits}

@@ -15,7 +15,7 @@ use Rattle.engine.specs.declared.CollectTold.{CollectTold}
 use Rattle.engine.specs.declared.LockTold.{LockTold}
 use Rattle.engine.specs.declared.WordTold.{WordTold}
 use Rattle.door.specs.Calls.{beginReply}
-use Rattle.door.specs.Door.{refusalReply, replyOf, collectedOf, wordOf, lockOf}
+use Rattle.door.specs.Door.{refusalReply, toldFields, collectedFields, wordFields, lockFields}
 use Rattle.past.specs.Past.{Call, Begin, Step, Collect, Drop, ReadWord, ReadLock, Show, Park, AllRecords, afterAll, steps}
 use Rattle.refusals.specs.Orders.{Refuses}
 use Rattle.tables.specs.Table.{setupS, jobA, jobSkipping, fresh, on, Answers, End, Ends, Stands, callsC, callsD, callsE, callsG, callsH}
@@ -55,28 +55,28 @@ tells-on calls b = past-tells zeros (record { setup = setupS; calls = calls; set
 
 -- a begin of worker 0 on S
 begin-on :
-    (l : ℕ) (rec : List ℕ) (t : Told) → beginOf fresh 0 l rec .told ≡ t → beginReply (lentOn []) 0 l rec ≡ replyOf t
+    (l : ℕ) (rec : List ℕ) (t : Told) → beginOf fresh 0 l rec .told ≡ t → beginReply (lentOn []) 0 l rec ≡ toldFields t
 unfolding AllRecords afterAll
-begin-on l rec t h = tells-on [] tt .begin 0 l rec ∙ ap (λ (t : Told). replyOf t) h
+begin-on l rec t h = tells-on [] tt .begin 0 l rec ∙ ap (λ (t : Told). toldFields t) h
 
 begun : beginOf fresh 0 0 jobA .told ≡ Accepted
 unfolding fresh afterAll past
 begun = premises-met .begun
 
 -- in the fields of the C interface
-answered : (t : CollectTold) (answer steps : ℕ) → Answers t answer steps → collectedOf t ≡ record { number = 0; place = 0; answer = answer; steps = steps }
+answered : (t : CollectTold) (answer steps : ℕ) → Answers t answer steps → collectedFields t ≡ record { number = 0; place = 0; answer = answer; steps = steps }
 answered (CollectTold.Answered x n) answer steps (p, q) = λ i. record { number = 0; place = 0; answer = p i; steps = q i }
 answered (CollectTold.Refused r) answer steps h = absurd h
 
-under-way : (t : CollectTold) → t ≡ CollectTold.Refused WorkerUnderWay → collectedOf t ≡ refusedBy 3
+under-way : (t : CollectTold) → t ≡ CollectTold.Refused WorkerUnderWay → collectedFields t ≡ refusedBy 3
 unfolding refusalReply refusalNumber refusalPlace
-under-way t h = ap (λ (t : CollectTold). collectedOf t) h
+under-way t h = ap (λ (t : CollectTold). collectedFields t) h
 
-idle : (t : CollectTold) → t ≡ CollectTold.Refused WorkerIdle → collectedOf t ≡ refusedBy 11
+idle : (t : CollectTold) → t ≡ CollectTold.Refused WorkerIdle → collectedFields t ≡ refusedBy 11
 unfolding refusalReply refusalNumber refusalPlace
-idle t h = ap (λ (t : CollectTold). collectedOf t) h
+idle t h = ap (λ (t : CollectTold). collectedFields t) h
 
-refuses : (t : Told) (number place : ℕ) → place % 2 ^ 32 ≡ place → Refuses t number place → replyOf t ≡ record { number = number; place = place }
+refuses : (t : Told) (number place : ℕ) → place % 2 ^ 32 ≡ place → Refuses t number place → toldFields t ≡ record { number = number; place = place }
 unfolding refusalReply
 refuses Accepted number place m h = absurd h
 refuses (Refused r) number place m (p, q) = λ i. record { number = p i; place = (ap (λ (n : ℕ). n % 2 ^ 32) q ∙ m) i }
@@ -87,8 +87,8 @@ free-stands :
 free-stands calls value count turn b h =
     let t = tells-on calls b in
     record {
-      word = t .readWord 0 ∙ ap (λ (x : WordTold). wordOf x) (h .word);
-      lock = t .readLock 0 ∙ ap (λ (x : LockTold). lockOf x) (h .lock);
+      word = t .readWord 0 ∙ ap (λ (x : WordTold). wordFields x) (h .word);
+      lock = t .readLock 0 ∙ ap (λ (x : LockTold). lockFields x) (h .lock);
     }
 
 held-stands :
@@ -97,8 +97,8 @@ held-stands :
 held-stands calls value count turn sheet b h =
     let t = tells-on calls b in
     record {
-      word = t .readWord 0 ∙ ap (λ (x : WordTold). wordOf x) (h .word);
-      lock = t .readLock 0 ∙ ap (λ (x : LockTold). lockOf x) (h .lock);
+      word = t .readWord 0 ∙ ap (λ (x : WordTold). wordFields x) (h .word);
+      lock = t .readLock 0 ∙ ap (λ (x : LockTold). lockFields x) (h .lock);
     }
 
 ends : (calls : List Call) (w : ℕ) (end : End) → AllRecords calls → Ends calls w end → LentEnds calls w end
@@ -115,7 +115,7 @@ pub lent-table : LentTable
 unfolding AllRecords callsC callsD callsE callsG callsH
 lent-table =
     record {
-      s = tells zeros wide .setup setupS ∙ ap (λ (t : Told). replyOf t) (table .s);
+      s = tells zeros wide .setup setupS ∙ ap (λ (t : Told). toldFields t) (table .s);
       begun = begin-on 0 jobA Accepted begun;
       a = ends _ 0 _ (job-bytes, tt) (table .a);
       b = ends _ 0 _ (job-b-bytes, tt) (table .b);

@@ -6,7 +6,7 @@ use mathlib.Core.List.{List, [], _∷_}
 use lib.ListN.{length}
 use Rattle.cells.specs.Layout.{numbers, unpack, blanked}
 use Rattle.door.specs.Calls.{setupReply, setupLeft, beginReply, beginLeft, stepReply, stepLeft, collectReply, collectLeft, dropReply, dropLeft, wordReply, lockReply, showReply, showBuffer, parkReply, parkBuffer}
-use Rattle.door.specs.Door.{shortReply, replyOf, noAnswer, collectedOf, noWord, wordOf, noLock, lockOf, noBytes, wroteOf}
+use Rattle.door.specs.Door.{shortReply, toldFields, noAnswer, collectedFields, noWord, wordFields, noLock, lockFields, noBytes, wroteFields}
 use Rattle.engine.specs.Calls.{setupOf, beginOf, stepOf, collectOf, dropOf, readWordOf, readLockOf, showOf, shownOf, parkOf, parkedOf}
 use Rattle.engine.specs.declared.CollectTold.{CollectTold}
 use Rattle.engine.specs.declared.Engine.{Engine}
@@ -38,16 +38,16 @@ lentPast s p = lentAll (setupLeft s (p .setup)) (p .calls)
 -- What the next call tells on the numbers s, whichever it is, and the buffer that it leaves, is what the call by value tells on the
 -- state e, in the fields of the C interface.
 pub record Tells (s : List ℕ) (e : Engine) : Type 0 where
-  pub setup : (rec : List ℕ) → setupReply s rec ≡ replyOf (setupOf rec .told)
-  pub begin : (w l : ℕ) (rec : List ℕ) → beginReply s w l rec ≡ replyOf (beginOf e w l rec .told)
-  pub step : (w : ℕ) → stepReply s w ≡ replyOf (stepOf e w .told)
-  pub collect : (w : ℕ) → collectReply s w ≡ collectedOf (collectOf e w .told)
-  pub drop : (w : ℕ) → dropReply s w ≡ replyOf (dropOf e w .told)
-  pub readWord : (i : ℕ) → wordReply s i ≡ wordOf (readWordOf e i)
-  pub readLock : (l : ℕ) → lockReply s l ≡ lockOf (readLockOf e l)
-  pub show : (sheet : ℕ) (buf : List ℕ) → showReply s sheet buf ≡ wroteOf (showOf e sheet (length buf))
+  pub setup : (rec : List ℕ) → setupReply s rec ≡ toldFields (setupOf rec .told)
+  pub begin : (w l : ℕ) (rec : List ℕ) → beginReply s w l rec ≡ toldFields (beginOf e w l rec .told)
+  pub step : (w : ℕ) → stepReply s w ≡ toldFields (stepOf e w .told)
+  pub collect : (w : ℕ) → collectReply s w ≡ collectedFields (collectOf e w .told)
+  pub drop : (w : ℕ) → dropReply s w ≡ toldFields (dropOf e w .told)
+  pub readWord : (i : ℕ) → wordReply s i ≡ wordFields (readWordOf e i)
+  pub readLock : (l : ℕ) → lockReply s l ≡ lockFields (readLockOf e l)
+  pub show : (sheet : ℕ) (buf : List ℕ) → showReply s sheet buf ≡ wroteFields (showOf e sheet (length buf))
   pub shown : (sheet : ℕ) (buf : List ℕ) → showBuffer s sheet buf ≡ shownOf e sheet buf
-  pub park : (buf : List ℕ) → parkReply s buf ≡ wroteOf (parkOf e (length buf))
+  pub park : (buf : List ℕ) → parkReply s buf ≡ wroteFields (parkOf e (length buf))
   pub parked : (buf : List ℕ) → parkBuffer s buf ≡ parkedOf e buf
 
 -- "Fewer numbers than the layout has: refusal 22, place 0": whichever call it is, and it leaves the numbers and the buffer

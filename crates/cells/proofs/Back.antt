@@ -25,7 +25,7 @@ use Rattle.steps.specs.declared.State.the-variants.{Idle, UnderWay, Finished}
 use Rattle.steps.specs.declared.State.{State}
 use Rattle.steps.specs.declared.Worker.{Worker}
 use Rattle.engine.specs.declared.Sheet.{Sheet}
-use Rattle.cells.specs.Codes.{byteOf, flagOf, flagNumber, holderOf, holderNumber, lockOf, lockNumbers, wordOf, wordNumbers, sheetOf, sheetNumbers, instrIn, instrNumber, entryOf, entryNumbers, fillNumbers, runOf, answerOf, stateOf, workerOf, runNumbers, pointNumbers, stateNumbers, workerNumbers, HolderFits, TryFits, RunFits, PointFits, StateFits}
+use Rattle.cells.specs.Codes.{byteOf, flagOf, flagNumber, holderOf, holderNumber, lockIn, lockNumbers, wordIn, wordNumbers, sheetIn, sheetNumbers, packedInstr, instrNumber, entryIn, entryNumbers, fillNumbers, runIn, answerIn, stateIn, workerIn, runNumbers, pointNumbers, stateNumbers, workerNumbers, HolderFits, TryFits, RunFits, PointFits, StateFits}
 use Rattle.cells.specs.Layout.{workerUsed}
 
 pub byte-back : (x : ℕ) → x < 256 → byteOf x ≡ x
@@ -39,22 +39,22 @@ holder-back : (h : Holder) → HolderFits h → holderOf (holderNumber h) ≡ h
 holder-back Free o = refl
 holder-back (By s) o = simp (ne-eqb (s + 1) 0 (λ e. omega arith)) (ap By (omega arith))
 
-pub answer-back : (a : Answer) → answerOf (answerNumber a) ≡ a
-unfolding answerOf answerNumber
+pub answer-back : (a : Answer) → answerIn (answerNumber a) ≡ a
+unfolding answerIn answerNumber
 answer-back RanYes = refl
 answer-back RanNo = refl
 answer-back NotTaken = refl
 
-pub lock-back : (x : LockWord) → HolderFits (x .holder) → lockOf (lockNumbers x) ≡ x
+pub lock-back : (x : LockWord) → HolderFits (x .holder) → lockIn (lockNumbers x) ≡ x
 lock-back x o = λ t. record { turn = x .turn; holder = holder-back (x .holder) o t }
 
-pub word-back : (x : Word) → x .guard < 256 → wordOf (wordNumbers x) ≡ x
+pub word-back : (x : Word) → x .guard < 256 → wordIn (wordNumbers x) ≡ x
 word-back x o = λ t. record { value = x .value; count = x .count; guard = byte-back (x .guard) o t }
 
-pub sheet-back : (x : Sheet) → x .length < 256 → sheetOf (sheetNumbers x) ≡ x
+pub sheet-back : (x : Sheet) → x .length < 256 → sheetIn (sheetNumbers x) ≡ x
 sheet-back x o = λ t. record { length = byte-back (x .length) o t; done = flag-back (x .done) t }
 
-pub instr-back : (x : Instr) → x .op < 256 → x .a < 256 → x .b < 256 → x .c < 256 → instrIn (instrNumber x) ≡ x
+pub instr-back : (x : Instr) → x .op < 256 → x .a < 256 → x .b < 256 → x .c < 256 → packedInstr (instrNumber x) ≡ x
 instr-back x p q r s =
     let n = instrNumber x in
     let h : n / 256 ≡ x .a + 256 * x .b + 65536 * x .c = omega arith in
@@ -69,14 +69,14 @@ instr-back x p q r s =
     low : (a m n : ℕ) → a < 256 → n ≡ a + 256 * m → byteOf n ≡ a
     low a m n h e = omega arith
 
-pub entry-back : (x : Entry) → entryOf (entryNumbers x) ≡ x
+pub entry-back : (x : Entry) → entryIn (entryNumbers x) ≡ x
 entry-back x = go (x .fill)
   where
-    go : (h : Fill) → entryOf (fillNumbers h) ≡ record { fill = h }
+    go : (h : Fill) → entryIn (fillNumbers h) ≡ record { fill = h }
     go Empty = refl
     go (Filled r) = refl
 
-run-back : (k : Worker) (tag value count new : ℕ) (r : Run) → RunFits r → runOf (runNumbers k tag r value count new) ≡ r
+run-back : (k : Worker) (tag value count new : ℕ) (r : Run) → RunFits r → runIn (runNumbers k tag r value count new) ≡ r
 run-back k tag value count new r o =
     λ t.
     record {
@@ -87,8 +87,8 @@ run-back k tag value count new r o =
       registers = r .registers;
     }
 
-point-back : (p : Point) (k : Worker) → PointFits p → stateOf (pointNumbers p k) ≡ UnderWay p
-unfolding stateOf
+point-back : (p : Point) (k : Worker) → PointFits p → stateIn (pointNumbers p k) ≡ UnderWay p
+unfolding stateIn
 point-back Look k o = refl
 point-back (Grab won) k o = refl
 point-back (LookAgain won) k o = refl
@@ -99,8 +99,8 @@ point-back (Point.Run r (Swap x new)) k o = λ t. UnderWay (Point.Run (run-back 
 point-back (Point.Run r (Mark b)) k o = λ t. UnderWay (Point.Run (run-back k 8 0 0 (flagNumber b) r o t) (Mark (flag-back b t)))
 point-back (Point.Run r (Release b)) k o = λ t. UnderWay (Point.Run (run-back k 9 0 0 (flagNumber b) r o t) (Release (flag-back b t)))
 
-state-back : (s : State) (k : Worker) → StateFits s → stateOf (stateNumbers s k) ≡ s
-unfolding stateOf
+state-back : (s : State) (k : Worker) → StateFits s → stateIn (stateNumbers s k) ≡ s
+unfolding stateIn
 state-back Idle k o = refl
 state-back (UnderWay p) k o = point-back p k o
 state-back (Finished a) k o = ap Finished (answer-back a)
@@ -142,7 +142,7 @@ length-entry x = go (x .fill)
     go Empty = refl
     go (Filled r) = refl
 
-pub worker-back : (k : Worker) → TryFits k → StateFits (k .state) → workerOf (workerNumbers k) ≡ k
+pub worker-back : (k : Worker) → TryFits k → StateFits (k .state) → workerIn (workerNumbers k) ≡ k
 unfolding workerNumbers
 worker-back k o f =
     let c = state-common (k .state) k in

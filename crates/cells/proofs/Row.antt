@@ -17,7 +17,7 @@ use Rattle.steps.specs.Worker.{worker0}
 use Rattle.steps.specs.declared.Worker.{Worker}
 use Rattle.engine.specs.State.{workerAt, withWorker}
 use Rattle.engine.specs.declared.Engine.{Engine}
-use Rattle.cells.specs.Codes.{byteOf, atTag, atLock, atOwn, atSteps, atRegister, stateOf, workerOf}
+use Rattle.cells.specs.Codes.{byteOf, atTag, atLock, atOwn, atSteps, atRegister, stateIn, workerIn}
 use Rattle.cells.specs.Layout.{numbers, workerUsed, workerPart, lockPart, wordPart, sheetPart, instrPart, entryPart, unpack, rowOf, numberAt, runNow, putNumber, putIdle}
 use Rattle.cells.specs.Pieces.{reads, placeOf, piecesOf}
 use Rattle.cells.proofs.Back.{length-entry, length-worker}
@@ -80,7 +80,7 @@ workers-put :
     numbers ≤ length s →
     w < workers →
     j < workerUsed →
-    piecesOf workerPart (putNumber s w j x) ≡ set (piecesOf workerPart s) w (workerOf (set (rowOf s w) j x))
+    piecesOf workerPart (putNumber s w j x) ≡ set (piecesOf workerPart s) w (workerIn (set (rowOf s w) j x))
 unfolding putNumber
 workers-put s w j x h b u =
     ext-getD worker0 _ _
@@ -90,17 +90,17 @@ workers-put s w j x h b u =
     go :
         (i : ℕ) → i < workers → (e : Bool) → eqb i w ≡ e →
         getD (piecesOf workerPart (putNumber s w j x)) i worker0 ≡
-        getD (set (piecesOf workerPart s) w (workerOf (set (rowOf s w) j x))) i worker0
+        getD (set (piecesOf workerPart s) w (workerIn (set (rowOf s w) j x))) i worker0
     go i l true e =
         let q : i ≡ w = eqb-true i w e in
         ap (λ (m : ℕ). getD (piecesOf workerPart (putNumber s w j x)) m worker0) q ∙
-        pieces-get workerPart (putNumber s w j x) w worker0 b ∙ ap workerOf (row-number s w j x h b u) ∙
-        sym (ap (λ (m : ℕ). getD (set (piecesOf workerPart s) w (workerOf (set (rowOf s w) j x))) m worker0) q ∙
+        pieces-get workerPart (putNumber s w j x) w worker0 b ∙ ap workerIn (row-number s w j x h b u) ∙
+        sym (ap (λ (m : ℕ). getD (set (piecesOf workerPart s) w (workerIn (set (rowOf s w) j x))) m worker0) q ∙
         getD-set-same (piecesOf workerPart s) w _ worker0 (omega (arith, pieces-length workerPart s)))
     go i l false e =
         let q : i ≡ w → ⊥ = eqb-false i w e in
         pieces-get workerPart (putNumber s w j x) i worker0 l ∙
-        ap workerOf (reads-apart workerUsed s (placeOf workerPart w + j) x (placeOf workerPart i) 0 (side i w j u q)) ∙
+        ap workerIn (reads-apart workerUsed s (placeOf workerPart w + j) x (placeOf workerPart i) 0 (side i w j u q)) ∙
         sym (getD-set-other (piecesOf workerPart s) w i _ worker0 q ∙ pieces-get workerPart s i worker0 l)
 
 -- the whole state
@@ -109,7 +109,7 @@ pub unpack-number :
     numbers ≤ length s →
     w < workers →
     j < workerUsed →
-    unpack (putNumber s w j x) ≡ withWorker (unpack s) w (workerOf (set (rowOf s w) j x))
+    unpack (putNumber s w j x) ≡ withWorker (unpack s) w (workerIn (set (rowOf s w) j x))
 unfolding unpack putNumber lay
 unpack-number s w j x h b u =
     let m = placeOf workerPart w + j in
@@ -125,14 +125,14 @@ unpack-number s w j x h b u =
       worker = workers-put s w j x h b u t;
     }
 
-pub worker-is : (s : List ℕ) (w : ℕ) → w < workers → workerAt (unpack s) w ≡ workerOf (rowOf s w)
+pub worker-is : (s : List ℕ) (w : ℕ) → w < workers → workerAt (unpack s) w ≡ workerIn (rowOf s w)
 unfolding unpack
 worker-is s w b = pieces-get workerPart s w worker0 b
 
 -- Numbers of worker w written one after the other over s, which is t now: the row l that stands there, and the whole state.
 pub record Row (s t : List ℕ) (w : ℕ) (l : List ℕ) : Type 0 where
   pub row : rowOf t w ≡ l
-  pub state : unpack t ≡ withWorker (unpack s) w (workerOf l)
+  pub state : unpack t ≡ withWorker (unpack s) w (workerIn l)
   pub size : length t ≡ length s
 
 module _ (s : List ℕ) (w : ℕ) (h : numbers ≤ length s) (b : w < workers) where
@@ -162,8 +162,8 @@ module _ (s : List ℕ) (w : ℕ) (h : numbers ≤ length s) (b : w < workers) w
       record {
         row = row-number t w j x n b u ∙ q;
         state =
-            unpack-number t w j x n b u ∙ ap (λ (y : List ℕ). withWorker (unpack t) w (workerOf y)) q ∙
-            over (unpack s) (unpack t) (workerOf l) (workerOf (set l j x)) (r .state);
+            unpack-number t w j x n b u ∙ ap (λ (y : List ℕ). withWorker (unpack t) w (workerIn y)) q ∙
+            over (unpack s) (unpack t) (workerIn l) (workerIn (set l j x)) (r .state);
         size = length-set t (placeOf workerPart w + j) x ∙ r .size;
       }
     where
@@ -172,7 +172,7 @@ module _ (s : List ℕ) (w : ℕ) (h : numbers ≤ length s) (b : w < workers) w
 
 -- worker w idle
 pub unpack-idle : (s : List ℕ) (w : ℕ) → numbers ≤ length s → w < workers → Says s (putIdle s w) (withWorker (unpack s) w worker0)
-unfolding putIdle stateOf
+unfolding putIdle stateIn
 unpack-idle s w h b =
     let put = row-put s w h b in
     let r₁ = put _ _ atTag 0 (omega arith) (row-none s w h b) in

@@ -10,7 +10,7 @@ use Rattle.parts.specs.Numbers.{workers, mostLocks, mostWords, sheets, entries}
 use Rattle.parts.proofs.Lay.{lay-is, length-lay}
 use Rattle.engine.specs.State.{blankOf, withWorker}
 use Rattle.engine.specs.declared.Engine.{Engine}
-use Rattle.cells.specs.Codes.{byteOf, stateOf}
+use Rattle.cells.specs.Codes.{byteOf, stateIn}
 use Rattle.cells.specs.Layout.{numbers, workerPart, lockPart, wordPart, sheetPart, instrPart, entryPart, unpack, putSizes, blanked}
 use Rattle.cells.specs.Pieces.{Part, placeOf, putPiece}
 use Rattle.cells.specs.State.{withSizes, withLock, withWord, withSheet, withInstr, withEntry}
@@ -178,7 +178,7 @@ unpack-sizes s l w h a b =
 
 -- numbers that are 0 as far as the state reaches
 pub unpack-zero : (s : List ℕ) → ((m : ℕ) → m < numbers → getD s m 0 ≡ 0) → unpack s ≡ blankOf
-unfolding unpack blankOf stateOf
+unfolding unpack blankOf stateIn
 unpack-zero s h =
     λ t.
     record {

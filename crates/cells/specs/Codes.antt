@@ -51,36 +51,36 @@ holderNumber (By s) = s + 1
 abbrev pub lockWordOf : ℕ → ℕ → LockWord
 lockWordOf turn holder = record { turn = turn; holder = holderOf holder }
 
-abbrev pub lockOf : List ℕ → LockWord
-lockOf l = lockWordOf (getD l 0 0) (getD l 1 0)
+abbrev pub lockIn : List ℕ → LockWord
+lockIn l = lockWordOf (getD l 0 0) (getD l 1 0)
 
 abbrev pub lockNumbers : LockWord → List ℕ
 lockNumbers x = x .turn ∷ holderNumber (x .holder) ∷ []
 
 -- value, count, guard
-abbrev pub wordOf : List ℕ → Word
-wordOf l = record { value = getD l 0 0; count = getD l 1 0; guard = byteOf (getD l 2 0) }
+abbrev pub wordIn : List ℕ → Word
+wordIn l = record { value = getD l 0 0; count = getD l 1 0; guard = byteOf (getD l 2 0) }
 
 abbrev pub wordNumbers : Word → List ℕ
 wordNumbers x = x .value ∷ x .count ∷ x .guard ∷ []
 
 -- length, done
-abbrev pub sheetOf : List ℕ → Sheet
-sheetOf l = record { length = byteOf (getD l 0 0); done = flagOf (getD l 1 0) }
+abbrev pub sheetIn : List ℕ → Sheet
+sheetIn l = record { length = byteOf (getD l 0 0); done = flagOf (getD l 1 0) }
 
 abbrev pub sheetNumbers : Sheet → List ℕ
 sheetNumbers x = x .length ∷ flagNumber (x .done) ∷ []
 
 -- the four bytes of an instruction in one number
-abbrev pub instrIn : ℕ → Instr
-instrIn x =
+abbrev pub packedInstr : ℕ → Instr
+packedInstr x =
     record { op = byteOf x; a = byteOf (x / 256); b = byteOf (x / 65536); c = byteOf (x / 16777216) }
 
 abbrev pub instrNumber : Instr → ℕ
 instrNumber x = x .op + 256 * x .a + 65536 * x .b + 16777216 * x .c
 
-abbrev pub instrOf : List ℕ → Instr
-instrOf l = instrIn (getD l 0 0)
+abbrev pub instrIn : List ℕ → Instr
+instrIn l = packedInstr (getD l 0 0)
 
 abbrev pub instrNumbers : Instr → List ℕ
 instrNumbers x = instrNumber x ∷ []
@@ -93,8 +93,8 @@ abbrev pub fillNumbers : Fill → List ℕ
 fillNumbers Empty = 0 ∷ 0 ∷ 0 ∷ []
 fillNumbers (Filled r) = 1 ∷ r .value ∷ r .count ∷ []
 
-abbrev pub entryOf : List ℕ → Entry
-entryOf l = record { fill = fillOf (getD l 0 0) (getD l 1 0) (getD l 2 0) }
+abbrev pub entryIn : List ℕ → Entry
+entryIn l = record { fill = fillOf (getD l 0 0) (getD l 1 0) (getD l 2 0) }
 
 abbrev pub entryNumbers : Entry → List ℕ
 entryNumbers x = fillNumbers (x .fill)
@@ -133,9 +133,10 @@ releaseTag = 9
 abbrev pub finishedTag : ℕ
 finishedTag = 10
 
--- Which of a worker's 15 numbers is which: the tag, the lock, the own sheet, the accepted steps; the sheet and the turn of a run (or
--- the holder and Look's turn before it), its next instruction, log place and four registers; a value and a count read (or the turn
--- seen); the word's new value (or what a halt said, or the answer)
+-- Which of a worker's 15 numbers is which: the tag, the lock, the own sheet, the accepted steps; the sheet of a run (before it, the
+-- holder that Look again saw); a turn, at Grab the one that Look saw, later the one under which the sheet won; the run's next
+-- instruction, log place and four registers; a value and a count read (before a run, the turn that Look again saw); the word's new value
+-- (or what a halt said, or the answer)
 abbrev pub atTag : ℕ
 atTag = 0
 
@@ -151,8 +152,8 @@ atSteps = 3
 abbrev pub atSheet : ℕ
 atSheet = 4
 
-abbrev pub atWon : ℕ
-atWon = 5
+abbrev pub atTurn : ℕ
+atTurn = 5
 
 abbrev pub atNext : ℕ
 atNext = 6
@@ -173,49 +174,49 @@ atCount = 13
 abbrev pub atNew : ℕ
 atNew = 14
 
-abbrev pub registersOf : List ℕ → Registers
-registersOf l = record { r0 = getD l 8 0; r1 = getD l 9 0; r2 = getD l 10 0; r3 = getD l 11 0 }
+abbrev pub registersIn : List ℕ → Registers
+registersIn l = record { r0 = getD l 8 0; r1 = getD l 9 0; r2 = getD l 10 0; r3 = getD l 11 0 }
 
-abbrev pub runOf : List ℕ → Run
-runOf l =
+abbrev pub runIn : List ℕ → Run
+runIn l =
     record {
       sheet = byteOf (getD l atSheet 0);
-      won = getD l atWon 0;
+      won = getD l atTurn 0;
       next = byteOf (getD l atNext 0);
       place = byteOf (getD l atPlace 0);
-      registers = registersOf l;
+      registers = registersIn l;
     }
 
-abbrev pub readOf : List ℕ → Reading
-readOf l = record { value = getD l atValue 0; count = getD l atCount 0 }
+abbrev pub readingIn : List ℕ → Reading
+readingIn l = record { value = getD l atValue 0; count = getD l atCount 0 }
 
 -- the lock word that Look again saw: its turn stands where a value does, its holder where a sheet does
-abbrev pub seenOf : List ℕ → LockWord
-seenOf l = lockWordOf (getD l atValue 0) (getD l atSheet 0)
+abbrev pub seenIn : List ℕ → LockWord
+seenIn l = lockWordOf (getD l atValue 0) (getD l atSheet 0)
 
 -- the answers' numbers; any other number says not taken
-unfoldable pub answerOf : ℕ → Answer
-answerOf x = pick (eqb x 1) RanYes (pick (eqb x 2) RanNo NotTaken)
+unfoldable pub answerIn : ℕ → Answer
+answerIn x = pick (eqb x 1) RanYes (pick (eqb x 2) RanNo NotTaken)
 
 -- by the tag; any other than 0 to 9 says finished
-unfoldable pub stateOf : List ℕ → State
-stateOf l =
+unfoldable pub stateIn : List ℕ → State
+stateIn l =
     pick (eqb (getD l atTag 0) idleTag) Idle
     (pick (eqb (getD l atTag 0) lookTag) (UnderWay Look)
-    (pick (eqb (getD l atTag 0) grabTag) (UnderWay (Grab (getD l atWon 0)))
-    (pick (eqb (getD l atTag 0) lookAgainTag) (UnderWay (LookAgain (getD l atWon 0)))
-    (pick (eqb (getD l atTag 0) readMarkTag) (UnderWay (ReadMark (seenOf l) (getD l atWon 0)))
-    (pick (eqb (getD l atTag 0) readTag) (UnderWay (Point.Run (runOf l) Read))
-    (pick (eqb (getD l atTag 0) commitTag) (UnderWay (Point.Run (runOf l) (Commit (readOf l))))
-    (pick (eqb (getD l atTag 0) swapTag) (UnderWay (Point.Run (runOf l) (Swap (readOf l) (getD l atNew 0))))
-    (pick (eqb (getD l atTag 0) markTag) (UnderWay (Point.Run (runOf l) (Mark (flagOf (getD l atNew 0)))))
-    (pick (eqb (getD l atTag 0) releaseTag) (UnderWay (Point.Run (runOf l) (Release (flagOf (getD l atNew 0)))))
-    (Finished (answerOf (getD l atNew 0))))))))))))
+    (pick (eqb (getD l atTag 0) grabTag) (UnderWay (Grab (getD l atTurn 0)))
+    (pick (eqb (getD l atTag 0) lookAgainTag) (UnderWay (LookAgain (getD l atTurn 0)))
+    (pick (eqb (getD l atTag 0) readMarkTag) (UnderWay (ReadMark (seenIn l) (getD l atTurn 0)))
+    (pick (eqb (getD l atTag 0) readTag) (UnderWay (Point.Run (runIn l) Read))
+    (pick (eqb (getD l atTag 0) commitTag) (UnderWay (Point.Run (runIn l) (Commit (readingIn l))))
+    (pick (eqb (getD l atTag 0) swapTag) (UnderWay (Point.Run (runIn l) (Swap (readingIn l) (getD l atNew 0))))
+    (pick (eqb (getD l atTag 0) markTag) (UnderWay (Point.Run (runIn l) (Mark (flagOf (getD l atNew 0)))))
+    (pick (eqb (getD l atTag 0) releaseTag) (UnderWay (Point.Run (runIn l) (Release (flagOf (getD l atNew 0)))))
+    (Finished (answerIn (getD l atNew 0))))))))))))
 
-abbrev pub workerOf : List ℕ → Worker
-workerOf l =
+abbrev pub workerIn : List ℕ → Worker
+workerIn l =
     record {
-      state = stateOf l;
+      state = stateIn l;
       lock = byteOf (getD l atLock 0);
       own = byteOf (getD l atOwn 0);
       steps = getD l atSteps 0;
@@ -228,8 +229,8 @@ runNumbers k tag r value count new =
 
 -- of a worker that is in no run
 abbrev pub seenNumbers : Worker → ℕ → ℕ → ℕ → ℕ → ℕ → List ℕ
-seenNumbers k tag sheet won value new =
-    runNumbers k tag (record { sheet = sheet; won = won; next = 0; place = 0; registers = registers0 }) value 0 new
+seenNumbers k tag sheet turn value new =
+    runNumbers k tag (record { sheet = sheet; won = turn; next = 0; place = 0; registers = registers0 }) value 0 new
 
 abbrev pub stageNumbers : Stage → Run → Worker → List ℕ
 stageNumbers Read r k = runNumbers k readTag r 0 0 0
@@ -240,7 +241,7 @@ stageNumbers (Release b) r k = runNumbers k releaseTag r 0 0 (flagNumber b)
 
 abbrev pub pointNumbers : Point → Worker → List ℕ
 pointNumbers Look k = seenNumbers k lookTag 0 0 0 0
-pointNumbers (Grab won) k = seenNumbers k grabTag 0 won 0 0
+pointNumbers (Grab seen) k = seenNumbers k grabTag 0 seen 0 0
 pointNumbers (LookAgain won) k = seenNumbers k lookAgainTag 0 won 0 0
 pointNumbers (ReadMark l won) k = seenNumbers k readMarkTag (holderNumber (l .holder)) won (l .turn) 0
 pointNumbers (Point.Run r at) k = stageNumbers at r k
@@ -269,7 +270,7 @@ pub record RunFits (r : Run) : Type 0 where
 
 abbrev pub PointFits : Point → Type 0
 PointFits Look = Unit {0}
-PointFits (Grab won) = Unit {0}
+PointFits (Grab seen) = Unit {0}
 PointFits (LookAgain won) = Unit {0}
 PointFits (ReadMark l won) = HolderFits (l .holder)
 PointFits (Point.Run r at) = RunFits r

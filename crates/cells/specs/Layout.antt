@@ -13,7 +13,7 @@ use Rattle.steps.specs.declared.Run.{Run}
 use Rattle.steps.specs.declared.Worker.{Worker}
 use Rattle.engine.specs.declared.Engine.{Engine}
 use Rattle.engine.specs.declared.Sheet.{Sheet}
-use Rattle.cells.specs.Codes.{byteOf, atTag, atLock, atOwn, atSteps, idleTag, runOf, readOf, seenOf, workerOf, workerNumbers, lockOf, lockNumbers, wordOf, wordNumbers, sheetOf, sheetNumbers, instrOf, instrNumbers, entryOf, entryNumbers}
+use Rattle.cells.specs.Codes.{byteOf, atTag, atLock, atOwn, atSteps, idleTag, runIn, readingIn, seenIn, workerIn, workerNumbers, lockIn, lockNumbers, wordIn, wordNumbers, sheetIn, sheetNumbers, instrIn, instrNumbers, entryIn, entryNumbers}
 use Rattle.cells.specs.Pieces.{Part, reads, placeOf, piecesOf, putPiece}
 
 -- from one piece to the next; the head has L and W
@@ -68,7 +68,7 @@ workerUsed = 15
 abbrev pub workerPart : Part Worker
 workerPart =
     record {
-      reading = workerOf;
+      reading = workerIn;
       writing = workerNumbers;
       base = workerBase;
       width = workerWidth;
@@ -78,16 +78,16 @@ workerPart =
 
 abbrev pub lockPart : Part LockWord
 lockPart =
-    record { reading = lockOf; writing = lockNumbers; base = lockBase; width = lockWidth; used = 2; count = mostLocks }
+    record { reading = lockIn; writing = lockNumbers; base = lockBase; width = lockWidth; used = 2; count = mostLocks }
 
 abbrev pub wordPart : Part Word
 wordPart =
-    record { reading = wordOf; writing = wordNumbers; base = wordBase; width = wordWidth; used = 3; count = mostWords }
+    record { reading = wordIn; writing = wordNumbers; base = wordBase; width = wordWidth; used = 3; count = mostWords }
 
 abbrev pub sheetPart : Part Sheet
 sheetPart =
     record {
-      reading = sheetOf;
+      reading = sheetIn;
       writing = sheetNumbers;
       base = sheetBase;
       width = sheetWidth;
@@ -97,11 +97,11 @@ sheetPart =
 
 abbrev pub instrPart : Part Instr
 instrPart =
-    record { reading = instrOf; writing = instrNumbers; base = instrBase; width = instrWidth; used = 1; count = entries }
+    record { reading = instrIn; writing = instrNumbers; base = instrBase; width = instrWidth; used = 1; count = entries }
 
 abbrev pub entryPart : Part Entry
 entryPart =
-    record { reading = entryOf; writing = entryNumbers; base = entryBase; width = entryWidth; used = 3; count = entries }
+    record { reading = entryIn; writing = entryNumbers; base = entryBase; width = entryWidth; used = 3; count = entries }
 
 -- the whole state
 unfoldable pub unpack : List ℕ → Engine
@@ -126,13 +126,13 @@ numberAt s w j = getD s (placeOf workerPart w + j) 0
 
 -- what they say, whatever the tag: the run, the reading that it goes by, the lock word seen
 unfoldable pub runNow : List ℕ → ℕ → Run
-runNow s w = runOf (rowOf s w)
+runNow s w = runIn (rowOf s w)
 
 unfoldable pub readNow : List ℕ → ℕ → Reading
-readNow s w = readOf (rowOf s w)
+readNow s w = readingIn (rowOf s w)
 
 unfoldable pub seenNow : List ℕ → ℕ → LockWord
-seenNow s w = seenOf (rowOf s w)
+seenNow s w = seenIn (rowOf s w)
 
 -- all numbers with number j of worker w written
 unfoldable pub putNumber : List ℕ → ℕ → ℕ → ℕ → List ℕ

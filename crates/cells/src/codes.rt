@@ -4,7 +4,7 @@ ghost use mathlib.Core.Path.{_≡_};
 ghost use Prim.Native.Nat.{_+_, _≤_};
 ghost use lib.ListN.{length};
 ghost use Rattle.parts.specs.Lay.{lay};
-ghost use Rattle.cells.specs.Codes.{byteOf, flagOf, flagNumber, holderOf, holderNumber, lockWordOf, instrIn, instrNumber, fillOf, fillNumbers, answerOf, HolderFits};
+ghost use Rattle.cells.specs.Codes.{byteOf, flagOf, flagNumber, holderOf, holderNumber, lockWordOf, packedInstr, instrNumber, fillOf, fillNumbers, answerIn, HolderFits};
 use parts::Answer;
 use parts::Fill;
 use parts::Holder;
@@ -78,7 +78,7 @@ pub fn lock_of(turn: u32, holder: u32) -> LockWord
 }
 
 pub fn instr_in(x: u32) -> Instr
-    ensures { λ r. ⌜ r ≡ instrIn x ⌝ }
+    ensures { λ r. ⌜ r ≡ packedInstr x ⌝ }
 {
     let op = byte(x);
     let a = byte(x / 256);
@@ -93,7 +93,7 @@ pub fn instr_in(x: u32) -> Instr
 }
 
 pub fn instr_number(x: Instr) -> u32
-    ensures { λ r. ⌜ (r ≡ instrNumber x) × (instrIn (instrNumber x) ≡ x) ⌝ }
+    ensures { λ r. ⌜ (r ≡ instrNumber x) × (packedInstr (instrNumber x) ≡ x) ⌝ }
 {
     x.op as u32 + 256 * (x.a as u32) + 65536 * (x.b as u32) + 16777216 * (x.c as u32)
 }
@@ -120,7 +120,7 @@ pub fn fill_numbers(x: Fill) -> [u32; 3]
 }
 
 pub fn answer_of(x: u32) -> Answer
-    ensures { λ r. ⌜ r ≡ answerOf x ⌝ }
+    ensures { λ r. ⌜ r ≡ answerIn x ⌝ }
 {
     match x {
         1 => Answer::RanYes,

@@ -2,7 +2,7 @@
 ghost use mathlib.Core.Path.{_≡_};
 ghost use Prim.Native.Nat.{_+_, _≤_, _<_};
 ghost use lib.ListN.{length};
-ghost use Rattle.cells.specs.Codes.{atRegister, registersOf, runOf, readOf, seenOf, stateOf, workerOf, runNumbers, seenNumbers, stageNumbers, pointNumbers, workerNumbers, TryFits, RunFits, PointFits};
+ghost use Rattle.cells.specs.Codes.{atRegister, registersIn, runIn, readingIn, seenIn, stateIn, workerIn, runNumbers, seenNumbers, stageNumbers, pointNumbers, workerNumbers, TryFits, RunFits, PointFits};
 ghost use Rattle.cells.specs.Layout.{workerUsed};
 ghost use Rattle.cells.specs.Pieces.{reads};
 use super::codes;
@@ -78,7 +78,7 @@ pub fn at_register(i: u8) -> usize
 
 pub fn registers_at(s: &[u32], at: usize) -> Registers
     requires { ⌜ at + workerUsed ≤ length (now s) ⌝ }
-    ensures { λ r. ⌜ r ≡ registersOf (reads (now (s .entry)) at 0 workerUsed) ⌝ }
+    ensures { λ r. ⌜ r ≡ registersIn (reads (now (s .entry)) at 0 workerUsed) ⌝ }
 {
     Registers {
         r0: s[at + 8],
@@ -90,7 +90,7 @@ pub fn registers_at(s: &[u32], at: usize) -> Registers
 
 pub fn run_at(s: &[u32], at: usize) -> Run
     requires { ⌜ at + workerUsed ≤ length (now s) ⌝ }
-    ensures { λ r. ⌜ r ≡ runOf (reads (now (s .entry)) at 0 workerUsed) ⌝ }
+    ensures { λ r. ⌜ r ≡ runIn (reads (now (s .entry)) at 0 workerUsed) ⌝ }
 {
     let sheet = codes::byte(s[at + SHEET]);
     let next = codes::byte(s[at + NEXT]);
@@ -107,7 +107,7 @@ pub fn run_at(s: &[u32], at: usize) -> Run
 
 pub fn read_at(s: &[u32], at: usize) -> Reading
     requires { ⌜ at + workerUsed ≤ length (now s) ⌝ }
-    ensures { λ r. ⌜ r ≡ readOf (reads (now (s .entry)) at 0 workerUsed) ⌝ }
+    ensures { λ r. ⌜ r ≡ readingIn (reads (now (s .entry)) at 0 workerUsed) ⌝ }
 {
     Reading {
         value: s[at + VALUE],
@@ -117,7 +117,7 @@ pub fn read_at(s: &[u32], at: usize) -> Reading
 
 pub fn seen_at(s: &[u32], at: usize) -> LockWord
     requires { ⌜ at + workerUsed ≤ length (now s) ⌝ }
-    ensures { λ r. ⌜ r ≡ seenOf (reads (now (s .entry)) at 0 workerUsed) ⌝ }
+    ensures { λ r. ⌜ r ≡ seenIn (reads (now (s .entry)) at 0 workerUsed) ⌝ }
 {
     codes::lock_of(s[at + VALUE], s[at + SHEET])
 }
@@ -125,7 +125,7 @@ pub fn seen_at(s: &[u32], at: usize) -> LockWord
 // By the tag; the arms are the tags above.
 pub fn state_at(s: &[u32], at: usize) -> State
     requires { ⌜ at + workerUsed ≤ length (now s) ⌝ }
-    ensures { λ r. ⌜ r ≡ stateOf (reads (now (s .entry)) at 0 workerUsed) ⌝ }
+    ensures { λ r. ⌜ r ≡ stateIn (reads (now (s .entry)) at 0 workerUsed) ⌝ }
 {
     let tag = s[at + TAG];
     let won = s[at + WON];
@@ -147,7 +147,7 @@ pub fn state_at(s: &[u32], at: usize) -> State
 
 pub fn worker_at(s: &[u32], at: usize) -> Worker
     requires { ⌜ at + workerUsed ≤ length (now s) ⌝ }
-    ensures { λ r. ⌜ r ≡ workerOf (reads (now (s .entry)) at 0 workerUsed) ⌝ }
+    ensures { λ r. ⌜ r ≡ workerIn (reads (now (s .entry)) at 0 workerUsed) ⌝ }
 {
     let state = state_at(s, at);
     let lock = codes::byte(s[at + LOCK]);
@@ -249,7 +249,7 @@ pub fn point_numbers(k: Worker, p: Point) -> [u32; WORKER_USED]
 }
 
 pub fn worker_numbers(k: Worker) -> [u32; WORKER_USED]
-    ensures { λ r. ⌜ (r ≡ workerNumbers k) × (workerOf (workerNumbers k) ≡ k) ⌝ }
+    ensures { λ r. ⌜ (r ≡ workerNumbers k) × (workerIn (workerNumbers k) ≡ k) ⌝ }
 {
     let s = k.state;
     match s {

@@ -8,7 +8,7 @@ use Rattle.engine.specs.Calls.{setupOf, beginOf, stepOf, collectOf, dropOf, rea
 use Rattle.lent.specs.Calls.{collectNumbers, dropNumbers}
 use Rattle.lent_step.specs.Points.{stepNumbers}
 use Rattle.lent_in.specs.Calls.{setupNumbers, beginNumbers}
-use Rattle.door.specs.Door.{unlessShort, shortReply, replyOf, noAnswer, collectedOf, noWord, wordOf, noLock, lockOf, noBytes, wroteOf}
+use Rattle.door.specs.Door.{unlessShort, shortReply, toldFields, noAnswer, collectedFields, noWord, wordFields, noLock, lockFields, noBytes, wroteFields}
 use Rattle.door.specs.declared.Collected.{Collected}
 use Rattle.door.specs.declared.LockRead.{LockRead}
 use Rattle.door.specs.declared.Reply.{Reply}
@@ -16,50 +16,50 @@ use Rattle.door.specs.declared.WordRead.{WordRead}
 use Rattle.door.specs.declared.Wrote.{Wrote}
 
 abbrev pub setupReply : List ℕ → List ℕ → Reply
-setupReply s rec = unlessShort s shortReply (replyOf (setupOf rec .told))
+setupReply s rec = unlessShort s shortReply (toldFields (setupOf rec .told))
 
 abbrev pub setupLeft : List ℕ → List ℕ → List ℕ
 setupLeft s rec = unlessShort s s (setupNumbers s rec)
 
 abbrev pub beginReply : List ℕ → ℕ → ℕ → List ℕ → Reply
-beginReply s w l rec = unlessShort s shortReply (replyOf (beginOf (unpack s) w l rec .told))
+beginReply s w l rec = unlessShort s shortReply (toldFields (beginOf (unpack s) w l rec .told))
 
 abbrev pub beginLeft : List ℕ → ℕ → ℕ → List ℕ → List ℕ
 beginLeft s w l rec = unlessShort s s (beginNumbers s w l rec)
 
 abbrev pub stepReply : List ℕ → ℕ → Reply
-stepReply s w = unlessShort s shortReply (replyOf (stepOf (unpack s) w .told))
+stepReply s w = unlessShort s shortReply (toldFields (stepOf (unpack s) w .told))
 
 abbrev pub stepLeft : List ℕ → ℕ → List ℕ
 stepLeft s w = unlessShort s s (stepNumbers s w)
 
 abbrev pub collectReply : List ℕ → ℕ → Collected
-collectReply s w = unlessShort s (noAnswer shortReply) (collectedOf (collectOf (unpack s) w .told))
+collectReply s w = unlessShort s (noAnswer shortReply) (collectedFields (collectOf (unpack s) w .told))
 
 abbrev pub collectLeft : List ℕ → ℕ → List ℕ
 collectLeft s w = unlessShort s s (collectNumbers s w)
 
 abbrev pub dropReply : List ℕ → ℕ → Reply
-dropReply s w = unlessShort s shortReply (replyOf (dropOf (unpack s) w .told))
+dropReply s w = unlessShort s shortReply (toldFields (dropOf (unpack s) w .told))
 
 abbrev pub dropLeft : List ℕ → ℕ → List ℕ
 dropLeft s w = unlessShort s s (dropNumbers s w)
 
 -- the readers and the writers leave the numbers; the writers leave a buffer
 abbrev pub wordReply : List ℕ → ℕ → WordRead
-wordReply s i = unlessShort s (noWord shortReply) (wordOf (readWordOf (unpack s) i))
+wordReply s i = unlessShort s (noWord shortReply) (wordFields (readWordOf (unpack s) i))
 
 abbrev pub lockReply : List ℕ → ℕ → LockRead
-lockReply s l = unlessShort s (noLock shortReply) (lockOf (readLockOf (unpack s) l))
+lockReply s l = unlessShort s (noLock shortReply) (lockFields (readLockOf (unpack s) l))
 
 abbrev pub showReply : List ℕ → ℕ → List ℕ → Wrote
-showReply s sheet buf = unlessShort s (noBytes shortReply) (wroteOf (showOf (unpack s) sheet (length buf)))
+showReply s sheet buf = unlessShort s (noBytes shortReply) (wroteFields (showOf (unpack s) sheet (length buf)))
 
 abbrev pub showBuffer : List ℕ → ℕ → List ℕ → List ℕ
 showBuffer s sheet buf = unlessShort s buf (shownOf (unpack s) sheet buf)
 
 abbrev pub parkReply : List ℕ → List ℕ → Wrote
-parkReply s buf = unlessShort s (noBytes shortReply) (wroteOf (parkOf (unpack s) (length buf)))
+parkReply s buf = unlessShort s (noBytes shortReply) (wroteFields (parkOf (unpack s) (length buf)))
 
 abbrev pub parkBuffer : List ℕ → List ℕ → List ℕ
 parkBuffer s buf = unlessShort s buf (parkedOf (unpack s) buf)

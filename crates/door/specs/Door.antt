@@ -31,42 +31,42 @@ unfoldable pub refusalReply : Refusal → Reply
 refusalReply r = record { number = refusalNumber r; place = refusalPlace r % 2 ^ 32 }
 
 -- number 0 says accepted
-abbrev pub replyOf : Told → Reply
-replyOf Told.Accepted = record { number = 0; place = 0 }
-replyOf (Told.Refused r) = refusalReply r
+abbrev pub toldFields : Told → Reply
+toldFields Told.Accepted = record { number = 0; place = 0 }
+toldFields (Told.Refused r) = refusalReply r
 
 -- where the call was refused so, there is nothing else to tell
 abbrev pub noAnswer : Reply → Collected
 noAnswer r = record { number = r .number; place = r .place; answer = 0; steps = 0 }
 
-abbrev pub collectedOf : CollectTold → Collected
-collectedOf (CollectTold.Answered x n) = record { number = 0; place = 0; answer = answerNumber x; steps = n }
-collectedOf (CollectTold.Refused r) = noAnswer (refusalReply r)
+abbrev pub collectedFields : CollectTold → Collected
+collectedFields (CollectTold.Answered x n) = record { number = 0; place = 0; answer = answerNumber x; steps = n }
+collectedFields (CollectTold.Refused r) = noAnswer (refusalReply r)
 
 abbrev pub noWord : Reply → WordRead
 noWord r = record { number = r .number; place = r .place; value = 0; count = 0; guard = 0 }
 
-abbrev pub wordOf : WordTold → WordRead
-wordOf (WordTold.Is w) = record { number = 0; place = 0; value = w .value; count = w .count; guard = w .guard }
-wordOf (WordTold.Refused r) = noWord (refusalReply r)
+abbrev pub wordFields : WordTold → WordRead
+wordFields (WordTold.Is w) = record { number = 0; place = 0; value = w .value; count = w .count; guard = w .guard }
+wordFields (WordTold.Refused r) = noWord (refusalReply r)
 
 abbrev pub noLock : Reply → LockRead
 noLock r = record { number = r .number; place = r .place; turn = 0; held = 0; sheet = 0 }
 
 -- held 0: free; held 1: by the sheet
-abbrev pub lockFields : LockWord → LockRead
-lockFields l =
+abbrev pub lockWordFields : LockWord → LockRead
+lockWordFields l =
     onHolder (l .holder) (record { number = 0; place = 0; turn = l .turn; held = 0; sheet = 0 })
     (λ s. record { number = 0; place = 0; turn = l .turn; held = 1; sheet = s })
 
-abbrev pub lockOf : LockTold → LockRead
-lockOf (LockTold.Is l) = lockFields l
-lockOf (LockTold.Refused r) = noLock (refusalReply r)
+abbrev pub lockFields : LockTold → LockRead
+lockFields (LockTold.Is l) = lockWordFields l
+lockFields (LockTold.Refused r) = noLock (refusalReply r)
 
 abbrev pub noBytes : Reply → Wrote
 noBytes r = record { number = r .number; place = r .place; length = 0 }
 
 -- how many bytes, in 32 bits
-abbrev pub wroteOf : WriteTold → Wrote
-wroteOf (WriteTold.Wrote n) = record { number = 0; place = 0; length = n % 2 ^ 32 }
-wroteOf (WriteTold.Refused r) = noBytes (refusalReply r)
+abbrev pub wroteFields : WriteTold → Wrote
+wroteFields (WriteTold.Wrote n) = record { number = 0; place = 0; length = n % 2 ^ 32 }
+wroteFields (WriteTold.Refused r) = noBytes (refusalReply r)

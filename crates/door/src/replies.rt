@@ -1,6 +1,6 @@
 // What a call told, as the numbers of a reply: each function is the definition of specs/Door.antt that has its name.
 ghost use mathlib.Core.Path.{_≡_};
-ghost use Rattle.door.specs.Door.{shortReply, refusalReply, replyOf, noAnswer, collectedOf, noWord, wordOf, noLock, lockFields, lockOf, noBytes, wroteOf};
+ghost use Rattle.door.specs.Door.{shortReply, refusalReply, toldFields, noAnswer, collectedFields, noWord, wordFields, noLock, lockWordFields, lockFields, noBytes, wroteFields};
 use crate::Collected;
 use crate::LockRead;
 use crate::Reply;
@@ -37,7 +37,7 @@ fn refusal_reply(r: Refusal) -> Reply
 }
 
 pub fn reply(told: Told) -> Reply
-    ensures { λ r. ⌜ r ≡ replyOf told ⌝ }
+    ensures { λ r. ⌜ r ≡ toldFields told ⌝ }
 {
     match told {
         Told::Accepted => Reply {
@@ -60,7 +60,7 @@ pub fn no_answer(r: Reply) -> Collected
 }
 
 pub fn collected(told: CollectTold) -> Collected
-    ensures { λ r. ⌜ r ≡ collectedOf told ⌝ }
+    ensures { λ r. ⌜ r ≡ collectedFields told ⌝ }
 {
     match told {
         CollectTold::Answered(answer, steps) => Collected {
@@ -86,7 +86,7 @@ pub fn no_word(r: Reply) -> WordRead
 }
 
 pub fn word_read(told: WordTold) -> WordRead
-    ensures { λ r. ⌜ r ≡ wordOf told ⌝ }
+    ensures { λ r. ⌜ r ≡ wordFields told ⌝ }
 {
     match told {
         WordTold::Is(w) => WordRead {
@@ -113,7 +113,7 @@ pub fn no_lock(r: Reply) -> LockRead
 }
 
 fn lock_fields(l: LockWord) -> LockRead
-    ensures { λ r. ⌜ r ≡ lockFields l ⌝ }
+    ensures { λ r. ⌜ r ≡ lockWordFields l ⌝ }
 {
     let holder = l.holder;
     match holder {
@@ -135,7 +135,7 @@ fn lock_fields(l: LockWord) -> LockRead
 }
 
 pub fn lock_read(told: LockTold) -> LockRead
-    ensures { λ r. ⌜ r ≡ lockOf told ⌝ }
+    ensures { λ r. ⌜ r ≡ lockFields told ⌝ }
 {
     match told {
         LockTold::Is(l) => lock_fields(l),
@@ -154,7 +154,7 @@ pub fn no_bytes(r: Reply) -> Wrote
 }
 
 pub fn wrote(told: WriteTold) -> Wrote
-    ensures { λ r. ⌜ r ≡ wroteOf told ⌝ }
+    ensures { λ r. ⌜ r ≡ wroteFields told ⌝ }
 {
     match told {
         WriteTold::Wrote(n) => Wrote {

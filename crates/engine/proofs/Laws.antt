@@ -10,7 +10,7 @@ use Rattle.parts.specs.Told.{onTold}
 use Rattle.parts.specs.declared.Answer.{Answer}
 use Rattle.parts.specs.declared.Word.{Word}
 use Rattle.records.specs.Job.{jobTold}
-use Rattle.steps.specs.Worker.{stepTold, collectTold, collectedOf}
+use Rattle.steps.specs.Worker.{stepByState, collectByState, collectedOf}
 use Rattle.steps.specs.declared.Point.{Point}
 use Rattle.steps.specs.declared.State.the-variants.{UnderWay, Finished}
 use Rattle.steps.specs.declared.Worker.{Worker}
@@ -67,7 +67,7 @@ pub collected :
     k ≡ collectedOf (workerAt e w) →
     next ≡ withWorker e w k →
     record { engine = next; told = CollectTold.Answered x (workerAt e w .steps) } ≡ collectOf e w
-unfolding collectOf collectTold
+unfolding collectOf collectByState
 collected e next w k x h s q n = simp (lt-leb workers w h, s, n, q)
 
 -- an accepted step, from what is known of its worker
@@ -77,7 +77,7 @@ pub stepped :
     workerAt e w .state ≡ UnderWay p →
     next ≡ steppedOf e w p →
     record { engine = next; told = Accepted } ≡ stepOf e w
-unfolding stepOf stepTold
+unfolding stepOf stepByState
 stepped e next w p h s n = simp (lt-leb workers w h, s, n)
 
 pub ruleset telling = (told-accepted, told-pass, told-stop)

@@ -20,8 +20,7 @@ use Rattle.parts.specs.declared.Told.{Told}
 use Rattle.parts.specs.declared.Told.the-variants.{Accepted, Refused}
 use Rattle.records.specs.Job.{jobOf, jobTold}
 use Rattle.records.specs.Setup.{locksField, wordsField, guardsField, valuesField, turnsField, setupTold, setupLength}
-use Rattle.steps.specs.Worker as steps
-use Rattle.steps.specs.Worker.{onState, beganOf, collectedOf, droppedOf}
+use Rattle.steps.specs.Worker.{onState, beganOf, collectedOf, droppedOf, beginByState, stepByState, collectByState, dropByState}
 use Rattle.steps.specs.declared.Worker.{Worker}
 use Rattle.engine.specs.State.{blankOf, lockCount, wordCount, wordsOf, workerAt, lockAt, wordAt, inUse, freeSheet, baseOf, programLength, sheetRecord, stateRecord, withWorker}
 use Rattle.engine.specs.Step.{steppedOf}
@@ -65,7 +64,7 @@ abbrev pub lockOrder : Engine → ℕ → List ℕ → List Told
 lockOrder e l rec = refuseIf (leb (lockCount e) l) NoLock ∷ jobTold rec l (guardsOf (wordsOf e)) ∷ roomOrder e l
 
 abbrev pub beginOrder : Engine → ℕ → ℕ → List ℕ → List Told
-beginOrder e w l rec = refuseIf (leb workers w) NoWorker ∷ steps.beginTold (workerAt e w) ∷ lockOrder e l rec
+beginOrder e w l rec = refuseIf (leb workers w) NoWorker ∷ beginByState (workerAt e w) ∷ lockOrder e l rec
 
 unfoldable pub beginTold : Engine → ℕ → ℕ → List ℕ → Told
 beginTold e w l rec = firstOf (beginOrder e w l rec)
@@ -73,7 +72,7 @@ beginTold e w l rec = firstOf (beginOrder e w l rec)
 -- what a begin finds that is accepted
 pub record Begins (e : Engine) (w l : ℕ) (rec : List ℕ) : Type 0 where
   pub worker : w < workers
-  pub idle : steps.beginTold (workerAt e w) ≡ Accepted
+  pub idle : beginByState (workerAt e w) ≡ Accepted
   pub lock : l < lockCount e
   pub job : jobTold rec l (guardsOf (wordsOf e)) ≡ Accepted
   pub worn : wornOf (lockAt e l) ≡ false
@@ -102,7 +101,7 @@ beginOf e w l rec = outcomeOf e (beginTold e w l rec) (takenOf e w l rec)
 
 -- "Step: 1, 11, 4." "Step (worker) does one step below."
 abbrev pub stepOrder : Engine → ℕ → List Told
-stepOrder e w = refuseIf (leb workers w) NoWorker ∷ steps.stepTold (workerAt e w) ∷ []
+stepOrder e w = refuseIf (leb workers w) NoWorker ∷ stepByState (workerAt e w) ∷ []
 
 abbrev pub stepTold : Engine → ℕ → Told
 stepTold e w = firstOf (stepOrder e w)
@@ -116,7 +115,7 @@ stepOf e w = outcomeOf e (stepTold e w) (onwardOf e w)
 -- "Collect: 1, 11, 3." "Collect (worker) hands out the answer and the number of accepted steps since begin, and makes the worker
 -- idle."
 abbrev pub collectOrder : Engine → ℕ → List Told
-collectOrder e w = refuseIf (leb workers w) NoWorker ∷ steps.collectTold (workerAt e w) ∷ []
+collectOrder e w = refuseIf (leb workers w) NoWorker ∷ collectByState (workerAt e w) ∷ []
 
 abbrev pub collectTold : Engine → ℕ → Told
 collectTold e w = firstOf (collectOrder e w)
@@ -136,7 +135,7 @@ collectOf e w =
 
 -- "Drop: 1, 11." "Drop (worker) makes a worker that isn't idle idle at any point; a held lock stays held."
 abbrev pub dropOrder : Engine → ℕ → List Told
-dropOrder e w = refuseIf (leb workers w) NoWorker ∷ steps.dropTold (workerAt e w) ∷ []
+dropOrder e w = refuseIf (leb workers w) NoWorker ∷ dropByState (workerAt e w) ∷ []
 
 abbrev pub dropTold : Engine → ℕ → Told
 dropTold e w = firstOf (dropOrder e w)

@@ -17,9 +17,9 @@ use Rattle.steps.specs.declared.Point.{Point}
 use Rattle.steps.specs.declared.State.the-variants.{UnderWay}
 use Rattle.steps.specs.declared.Worker.{Worker}
 use Rattle.alone.specs.Jobs.{Try, givesOf, times}
-use Rattle.helping.specs.Machine.{Rules, Scene, Tale, put, Unused, begunOf, beginTale, idledOf}
+use Rattle.helping.specs.Machine.{Rules, Scene, Tale, put, Unused, machineBegun, beginTale, idledOf}
 use Rattle.helping.specs.Ideal.{Fine}
-use Rattle.helping.specs.Ok.{unwon, Status, View, viewOf, SheetOk, StateOk, LockOk, Named, Busy, Ok, Next, Fresh, untold}
+use Rattle.helping.specs.Ok.{unwon, Status, View, viewOf, SheetOk, StateOk, LockOk, Named, NotIdle, Ok, Next, Fresh, untold}
 use Rattle.helping.proofs.Put.{put-same, put-other, put-at, all-but}
 use Rattle.helping.proofs.Frame.{Passed, frame, named-on, retold, only-worker}
 use Rattle.helping.proofs.Spared.{Spared, sheet-spared, passed-spared, sheet-as}
@@ -45,7 +45,7 @@ fresh-ok K E f =
             named =
                 λ i.
                 subst (λ (k : Worker). Named K untold (viewOf E none) (untold .tries i) k (k .state)) (sym (f .idle i)) tt;
-            apart = λ i k p q e h same. absurd (lazy i (subst Busy (sym e) tt));
+            apart = λ i k p q e h same. absurd (lazy i (subst NotIdle (sym e) tt));
             ids = λ i k b c same. absurd (lazy i b);
             begun = λ i b. absurd (lazy i b);
             unborn = λ n l h. refl;
@@ -57,8 +57,8 @@ fresh-ok K E f =
     none : ℕ → Status
     none s = record { kind = unwon; job = record { code = []; lock = 0; words = E .word }; turn = 0; front = 0 }
 
-    lazy : (i : ℕ) → Busy (E .worker i .state) → ⊥
-    lazy i b = subst (λ (k : Worker). Busy (k .state)) (f .idle i) b
+    lazy : (i : ℕ) → NotIdle (E .worker i .state) → ⊥
+    lazy i b = subst (λ (k : Worker). NotIdle (k .state)) (f .idle i) b
 
 pub idle-ok : (K : Rules) (E : Scene) (T : Tale) (st : ℕ → Status) → Ok K E T st → (i : ℕ) → Next K (idledOf E i) T
 idle-ok K E T st o i =
@@ -71,7 +71,7 @@ idle-ok K E T st o i =
 
 pub begin-ok :
     (K : Rules) (E : Scene) (T : Tale) (st : ℕ → Status) → Ok K E T st → (i l s : ℕ) (code : List Instr) →
-    Unused E s → Fine K l code → Next K (begunOf E i l code s) (beginTale T i l code)
+    Unused E s → Fine K l code → Next K (machineBegun E i l code s) (beginTale T i l code)
 begin-ok K E T st o i l s code u f =
     record {
       st = put st s renewed;
@@ -110,7 +110,7 @@ begin-ok K E T st o i l s code u f =
     v = viewOf E st
 
     v′ : View
-    v′ = viewOf (begunOf E i l code s) (put st s renewed)
+    v′ = viewOf (machineBegun E i l code s) (put st s renewed)
 
     S : Tale
     S = beginTale T i l code
@@ -166,8 +166,8 @@ begin-ok K E T st o i l s code u f =
     apart a b p q false false d e g h same = o .apart a b p q g h same
 
     ids :
-        (a b : ℕ) (x y : Bool) → eqb a i ≡ x → eqb b i ≡ y → Busy (pick x (lookingOf l s) (E .worker a) .state) →
-        Busy (pick y (lookingOf l s) (E .worker b) .state) →
+        (a b : ℕ) (x y : Bool) → eqb a i ≡ x → eqb b i ≡ y → NotIdle (pick x (lookingOf l s) (E .worker a) .state) →
+        NotIdle (pick y (lookingOf l s) (E .worker b) .state) →
         pick x new (T .tries a) .number ≡ pick y new (T .tries b) .number → a ≡ b
     ids a b true true d e g h same = eqb-true a i d ∙ sym (eqb-true b i e)
     ids a b true false d e g h same = absurd (omega (arith, o .begun b h))
@@ -175,7 +175,7 @@ begin-ok K E T st o i l s code u f =
     ids a b false false d e g h same = o .ids a b g h same
 
     begun :
-        (m : ℕ) (b : Bool) → Busy (pick b (lookingOf l s) (E .worker m) .state) →
+        (m : ℕ) (b : Bool) → NotIdle (pick b (lookingOf l s) (E .worker m) .state) →
         pick b new (T .tries m) .number < suc (T .begins)
     begun m true h = le-refl _
     begun m false h = omega (arith, o .begun m h)

@@ -13,7 +13,7 @@ use Rattle.parts.specs.declared.Reading.{Reading}
 use Rattle.alone.specs.Jobs.{Try, givesOf}
 use Rattle.helping.specs.Machine.{Rules, Scene, Tale, put}
 use Rattle.helping.specs.Ideal.{Job, idealOf, Guarded}
-use Rattle.helping.specs.Ok.{Kind, unwon, current, past, Status, View, viewOf, OnSheet, SheetOk, Won, Begins, HeldOk, LockOk, Ok}
+use Rattle.helping.specs.Ok.{Kind, unwon, current, past, Status, View, viewOf, OnSheet, SheetOk, Won, JobBegins, HeldOk, LockOk, Ok}
 use Rattle.helping.proofs.Put.{put-case}
 use Rattle.helping.proofs.Distinct.{won-kind}
 use Rattle.helping.proofs.Run.{next-in, lag, tally}
@@ -38,7 +38,7 @@ module _ (K : Rules) (T T′ : Tale) (l t : ℕ) (list : T′ .won l ≡ T .won 
         earlier = H .earlier;
         list = list ∙ H .list;
         code = H .code ∙ ap (λ (J : Job). J .code) (sym (e .job));
-        from = subst (λ (J : Job). Begins K J (H .earlier)) (sym (e .job)) (H .from);
+        from = subst (λ (J : Job). JobBegins K J (H .earlier)) (sym (e .job)) (H .from);
         counts = λ q g. rw (e .job) (H .counts q g);
       }
 

@@ -16,8 +16,8 @@ use Rattle.steps.specs.declared.State.the-variants.{Idle, UnderWay, Finished}
 use Rattle.steps.specs.declared.Worker.{Worker}
 use Rattle.alone.specs.Jobs.{Try}
 use Rattle.helping.specs.Machine.{Rules, Scene, Tale, put, setWorker}
-use Rattle.helping.specs.Ideal.{Job, Fine, Moved, Stands}
-use Rattle.helping.specs.Ok.{Status, View, viewOf, sharedAt, unwon, past, Won, Lost, RunsAt, PointOk, StateOk, Begins, Listed, Absent, Named, Busy, Ok}
+use Rattle.helping.specs.Ideal.{Job, Fine, Moved, RunStands}
+use Rattle.helping.specs.Ok.{Status, View, viewOf, sharedAt, unwon, past, Won, Lost, RunsAt, PointOk, StateOk, JobBegins, Listed, Absent, Named, NotIdle, Ok}
 use Rattle.helping.proofs.Put.{put-at}
 use Rattle.helping.proofs.Inside.{others}
 
@@ -58,7 +58,7 @@ module _ (K : Rules) (v v′ : View) where
       let s : ℕ = r .sheet in
       let c = q .won (i .0 .won .is) in (
         record { help = λ n. o .un (i .0 .help n); won = won-carried s l (r .won) q (i .0 .won) },
-        subst (λ (J : Job). Stands J (v′ .st s .front) (sharedAt v′ s) r at) (sym (c .job))
+        subst (λ (J : Job). RunStands J (v′ .st s .front) (sharedAt v′ s) r at) (sym (c .job))
             (others (v .st s .job) (v .st s .front) (v′ .st s .front) (sharedAt v s) (sharedAt v′ s) r at (c .moved) (i .1)),
       )
 
@@ -108,14 +108,14 @@ named-on K T v v′ t k (UnderWay p) f n =
       absent = λ u. n .absent (m .from u);
       listed =
           λ u.
-          subst (λ (J : Job). Listed (Begins K J) t (T .won (t .lock))) (sym (m .job)) (n .listed (λ e. u (m .to e)));
+          subst (λ (J : Job). Listed (JobBegins K J) t (T .won (t .lock))) (sym (m .job)) (n .listed (λ e. u (m .to e)));
     }
 named-on K T v v′ t k (Finished x) f n = n
 
 -- what is told of a try hangs on the lists only
 pub retold :
     (K : Rules) (T T′ : Tale) (v : View) (t : Try) (k : Worker) (s : State) →
-    (Busy s → Absent T (t .number) → Absent T′ (t .number)) →
+    (NotIdle s → Absent T (t .number) → Absent T′ (t .number)) →
     ((P : List Try → Type 0) → Listed P t (T .won (t .lock)) → Listed P t (T′ .won (t .lock))) → Named K T v t k s →
     Named K T′ v t k s
 retold K T T′ v t k Idle a f n = tt
@@ -134,14 +134,14 @@ pub record Keeps (E : Scene) (i : ℕ) (k : Worker) : Type 0 where
 pub only-worker :
     (K : Rules) (E : Scene) (T : Tale) (st : ℕ → Status) (i : ℕ) (k : Worker) → Ok K E T st →
     StateOk K (viewOf E st) k (k .state) → Named K T (viewOf E st) (T .tries i) k (k .state) →
-    ((p : Point) → k .state ≡ UnderWay p → Keeps E i k) → (Busy (k .state) → Busy (E .worker i .state)) →
+    ((p : Point) → k .state ≡ UnderWay p → Keeps E i k) → (NotIdle (k .state) → NotIdle (E .worker i .state)) →
     Ok K (setWorker E i k) T st
 only-worker K E T st i k o w n own busy =
     let was : (m : ℕ) (p : Point) → put (E .worker) i k m .state ≡ UnderWay p → Keeps E m (put (E .worker) i k m) =
     put-at (λ m (x : Worker). (p : Point) → x .state ≡ UnderWay p → Keeps E m x) (E .worker) i k own
     (λ m n p e. record { at = p; state = e; own = refl }) in
-    let still : (m : ℕ) → Busy (put (E .worker) i k m .state) → Busy (E .worker m .state) =
-    put-at (λ m (x : Worker). Busy (x .state) → Busy (E .worker m .state)) (E .worker) i k busy (λ m n b. b) in
+    let still : (m : ℕ) → NotIdle (put (E .worker) i k m .state) → NotIdle (E .worker m .state) =
+    put-at (λ m (x : Worker). NotIdle (x .state) → NotIdle (E .worker m .state)) (E .worker) i k busy (λ m n b. b) in
     record {
       sheet = o .sheet;
       lock = o .lock;

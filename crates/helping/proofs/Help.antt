@@ -26,7 +26,7 @@ use Rattle.steps.specs.declared.State.the-variants.{UnderWay, Finished}
 use Rattle.steps.specs.declared.Worker.{Worker}
 use Rattle.alone.specs.Jobs.{Try, givesOf, partOf}
 use Rattle.alone.proofs.Jobs.{gives-length}
-use Rattle.helping.specs.Machine.{Rules, Scene, Tale, put, sharedOf, paceOf, movedOf, releaseOf, lookTo, pacedOf, stepAt, stepTale}
+use Rattle.helping.specs.Machine.{Rules, Scene, Tale, put, sharedOf, paceOf, machineMoved, machineRelease, lookTo, pacedOf, stepAt, stepTale}
 use Rattle.helping.specs.Ideal.{Guarded, leftAt}
 use Rattle.helping.specs.Ok.{current, Status, todoAt, Ok, Next, onward, aloneSteps}
 use Rattle.helping.proofs.Put.{put-same}
@@ -104,11 +104,11 @@ module _ (K : Rules) (T : Tale) (i l s t : ℕ) where
 
   -- once it went on, and the lock words stayed
   moved :
-      (E D : Scene) (p q : Point) → D .worker ≡ put (E .worker) i (movedOf (E .worker i) (UnderWay q)) →
+      (E D : Scene) (p q : Point) → D .worker ≡ put (E .worker) i (machineMoved (E .worker i) (UnderWay q)) →
       D .lock ≡ E .lock → Helps E p → Helps D q
   moved E D p q e f h =
-      let same : D .worker i ≡ movedOf (E .worker i) (UnderWay q) =
-      ap (λ (g : ℕ → Worker). g i) e ∙ put-same (E .worker) i (movedOf (E .worker i) (UnderWay q)) in
+      let same : D .worker i ≡ machineMoved (E .worker i) (UnderWay q) =
+      ap (λ (g : ℕ → Worker). g i) e ∙ put-same (E .worker) i (machineMoved (E .worker i) (UnderWay q)) in
       record {
         state = ap (λ (k : Worker). k .state) same;
         lock = ap (λ (k : Worker). k .lock) same ∙ h .lock;
@@ -125,8 +125,8 @@ module _ (K : Rules) (T : Tale) (i l s t : ℕ) where
   step-first n E p e c = subst (λ (z : State). Completed K (aloneSteps K i n (onward K i E z)) T i l t) (sym e) c
 
   -- the last step: release
-  released : releaseOf (record { turn = t; holder = By s }) t s ≡ record { turn = t; holder = Free }
-  unfolding releaseOf
+  released : machineRelease (record { turn = t; holder = By s }) t s ≡ record { turn = t; holder = Free }
+  unfolding machineRelease
   released = rw (eq-eqb s s refl, eq-eqb t t refl)
 
   let-go :
@@ -140,9 +140,9 @@ module _ (K : Rules) (T : Tale) (i l s t : ℕ) where
       ap (λ (k : Worker). k .state) (put-same (E .worker) i _) ∙ told in
       let free : D .lock l ≡ record { turn = t; holder = Free } =
       subst
-      (λ (m : ℕ). put (E .lock) m (releaseOf (E .lock m) (r .won) (r .sheet)) l ≡ record { turn = t; holder = Free })
+      (λ (m : ℕ). put (E .lock) m (machineRelease (E .lock m) (r .won) (r .sheet)) l ≡ record { turn = t; holder = Free })
       (sym (h .lock))
-      (put-same (E .lock) l _ ∙ (λ j. releaseOf (h .held j) (won j) (sheet j)) ∙ released) in
+      (put-same (E .lock) l _ ∙ (λ j. machineRelease (h .held j) (won j) (sheet j)) ∙ released) in
       let ok = lock-at K D T (next .st) (next .ok) l Free (ap (λ (x : LockWord). x .holder) free) in
       step-first n E (Point.Run r (Release said)) (h .state)
       (subst (λ (F : Scene). Completed K F T i l t) (sym (finished-stays K i n D NotTaken ends))
@@ -219,11 +219,11 @@ completes K E T st o i s e h =
 
     worker :
         stepAt K E i (E .worker i) Look .worker ≡
-        put (E .worker) i (movedOf (E .worker i) (UnderWay (Point.Run (startOf s t) Read)))
+        put (E .worker) i (machineMoved (E .worker i) (UnderWay (Point.Run (startOf s t) Read)))
     worker =
         ap
         (λ (x : Holder).
-        put (E .worker) i (movedOf (E .worker i) (lookTo (K .last) (record { turn = t; holder = x }))))
+        put (E .worker) i (machineMoved (E .worker i) (lookTo (K .last) (record { turn = t; holder = x }))))
         h
 
     looked : Completed K (aloneSteps K i (longestRun (K .most) + 2) (stepAt K E i (E .worker i) Look)) T i l t

@@ -9,8 +9,8 @@ use Rattle.parts.specs.declared.Registers.{Registers}
 use Rattle.steps.specs.declared.Run.{Run}
 use Rattle.steps.specs.declared.Stage.{Stage}
 use Rattle.steps.specs.declared.Stage.the-variants.{Read, Commit, Swap, Mark, Release}
-use Rattle.helping.specs.Machine.{Rules, Shared, Act, fin, go, touch, actAt, target, ontoOf}
-use Rattle.helping.specs.Ideal.{farOf, Job, Ideal, nextOf, idealOf, actIn, Touches, metIn, Follow, Guarded, FineJob, At, In, Stands, Moved}
+use Rattle.helping.specs.Machine.{Rules, Shared, Act, fin, go, touch, actAt, target, machineOnto}
+use Rattle.helping.specs.Ideal.{farOf, Job, Ideal, nextOf, idealOf, actIn, Touches, metIn, Follow, Guarded, FineJob, At, In, RunStands, Moved}
 use Rattle.helping.proofs.Run.{logs, next-in, next-done, next-swap}
 
 -- what follows from a word follows at an instruction that asks for one
@@ -39,7 +39,7 @@ module _ (J : Job) (j : ℕ) (r : Run) (at : At J j r) where
   onto :
       (over : ℕ) (rs : Registers) (x : Shared) (s : Ideal) → idealOf J (suc j) ≡ s →
       suc (idealOf J j .next + over) ≡ s .next → rs ≡ s .registers → r .place ≡ s .place →
-      In J (suc j) x (ontoOf r over rs) Read
+      In J (suc j) x (machineOnto r over rs) Read
   onto over rs x s e n q p = (
     record {
       next = omega (arith, at .next, ap (λ (t : Ideal). t .next) e);
@@ -50,20 +50,20 @@ module _ (J : Job) (j : ℕ) (r : Run) (at : At J j r) where
 
   pub go-on :
       (x : Shared) (n : ℕ) (rs : Registers) → actIn J j ≡ go rs n → r .place ≡ idealOf J j .place →
-      In J (suc j) x (ontoOf r n rs) Read
+      In J (suc j) x (machineOnto r n rs) Read
   unfolding idealOf nextOf
   go-on x n rs e p =
       onto n rs x _ (ap (λ (a : Act). nextOf a (idealOf J j)) e) refl refl p
 
   pub done-on :
       (x : Shared) (rs : Registers) → Follow (actIn J j) (metIn J j .value) (follows.Done rs) →
-      r .place ≡ suc (idealOf J j .place) → In J (suc j) x (ontoOf r 0 rs) Read
+      r .place ≡ suc (idealOf J j .place) → In J (suc j) x (machineOnto r 0 rs) Read
   unfolding idealOf
   done-on x rs e p = onto 0 rs x _ (next-done (actIn J j) (idealOf J j) rs e) (omega arith) refl p
 
   pub swap-on :
       (x : Shared) (new : ℕ) → Follow (actIn J j) (metIn J j .value) (follows.Swap new) →
-      r .place ≡ suc (idealOf J j .place) → In J (suc j) x (ontoOf r 0 (r .registers)) Read
+      r .place ≡ suc (idealOf J j .place) → In J (suc j) x (machineOnto r 0 (r .registers)) Read
   unfolding idealOf
   swap-on x new e p =
       onto 0 (r .registers) x _ (next-swap (actIn J j) (idealOf J j) new e) (omega arith) (at .registers) p
@@ -81,8 +81,8 @@ in-moved J n n′ x x′ m j r (Mark said) h i = i
 in-moved J n n′ x x′ m j r (Release said) h i = i
 
 pub others :
-    (J : Job) (n n′ : ℕ) (x x′ : Shared) (r : Run) (at : Stage) → Moved J n x n′ x′ → Stands J n x r at →
-    Stands J n′ x′ r at
+    (J : Job) (n n′ : ℕ) (x x′ : Shared) (r : Run) (at : Stage) → Moved J n x n′ x′ → RunStands J n x r at →
+    RunStands J n′ x′ r at
 others J n n′ x x′ r at m t =
     record {
       j = t .j;

@@ -19,15 +19,15 @@ use Rattle.steps.specs.declared.Point.the-variants.{Look, Grab, LookAgain, Read
 use Rattle.steps.specs.declared.Stage.the-variants.{Read}
 use Rattle.steps.specs.declared.State.the-variants.{UnderWay, Finished}
 use Rattle.steps.specs.declared.Worker.{Worker}
-use Rattle.helping.specs.Machine.{Rules, Scene, Shared, Tale, movedOf, onTo, lookTo, markTo}
-use Rattle.helping.specs.Ideal.{Job, idealOf, Stands}
-use Rattle.helping.specs.Ok.{Kind, unwon, current, past, Status, viewOf, Won, Lost, MarkOk, PointOk, todoAt, StateOk, AnswerOk, TryOk, Named, Busy, Ok}
+use Rattle.helping.specs.Machine.{Rules, Scene, Shared, Tale, machineMoved, onTo, lookTo, markTo}
+use Rattle.helping.specs.Ideal.{Job, idealOf, RunStands}
+use Rattle.helping.specs.Ok.{Kind, unwon, current, past, Status, viewOf, Won, Lost, MarkOk, PointOk, todoAt, StateOk, AnswerOk, TryOk, Named, NotIdle, Ok}
 use Rattle.helping.proofs.Distinct.{free-holds}
 use Rattle.helping.proofs.Frame.{only-worker}
 use Rattle.helping.proofs.Change.{sheet-at, lock-at, won-held, held-by}
 
 -- a run stands at its start
-starts : (J : Job) (n : ℕ) (x : Shared) (s t : ℕ) → Stands J n x (startOf s t) Read
+starts : (J : Job) (n : ℕ) (x : Shared) (s t : ℕ) → RunStands J n x (startOf s t) Read
 unfolding idealOf
 starts J n x s t =
     record { j = 0; behind = omega arith; inn = (record { next = refl; registers = refl }, refl) }
@@ -43,15 +43,15 @@ module _ (K : Rules) (E : Scene) (T : Tale) (st : ℕ → Status) (o : Ok K E T 
   pub mine-named : TryOk K T (viewOf E st) (T .tries i) k
   mine-named = subst (Named K T (viewOf E st) (T .tries i) k) e (o .named i)
 
-  pub busy : Busy (k .state)
-  busy = subst Busy (sym e) tt
+  pub busy : NotIdle (k .state)
+  busy = subst NotIdle (sym e) tt
 
   -- the worker goes on to a point
   pub goes :
       (q : Point) → todoAt (K .most) q < todoAt (K .most) p → PointOk K (viewOf E st) (k .own) (k .lock) q →
       Ok K (onTo E i k (UnderWay q)) T st
   goes q h w =
-      only-worker K E T st i (movedOf k (UnderWay q)) o (omega (arith, mine .0, h), w)
+      only-worker K E T st i (machineMoved k (UnderWay q)) o (omega (arith, mine .0, h), w)
       (record {
         lock = mine-named .lock;
         program = mine-named .program;
@@ -64,7 +64,7 @@ module _ (K : Rules) (E : Scene) (T : Tale) (st : ℕ → Status) (o : Ok K E T 
   pub ends :
       (a : Answer) → 0 < todoAt (K .most) p → AnswerOk K T (T .tries i) a → Ok K (onTo E i k (Finished a)) T st
   ends a h w =
-      only-worker K E T st i (movedOf k (Finished a)) o (omega (arith, mine .0, h)) (mine-named .lock, w)
+      only-worker K E T st i (machineMoved k (Finished a)) o (omega (arith, mine .0, h)) (mine-named .lock, w)
       (λ r z.
       let y : _≡_ {A = ℕ} 0 1 = cc in
       absurd (omega arith))

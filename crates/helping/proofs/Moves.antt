@@ -17,7 +17,7 @@ use Rattle.steps.specs.declared.Stage.{Stage}
 use Rattle.steps.specs.declared.Stage.the-variants.{Read, Commit, Swap, Mark, Release}
 use Rattle.steps.specs.declared.State.the-variants.{UnderWay}
 use Rattle.steps.specs.declared.Worker.{Worker}
-use Rattle.helping.specs.Machine.{Rules, Scene, Tale, setLock, movedOf, onTo, grabOf, pacedOf, stepAt, winTale, grabTale, stepTale}
+use Rattle.helping.specs.Machine.{Rules, Scene, Tale, setLock, machineMoved, onTo, machineGrab, pacedOf, stepAt, winTale, grabTale, stepTale}
 use Rattle.helping.specs.Ok.{Status, viewOf, PointOk, Ok, Next}
 use Rattle.helping.proofs.Put.{put-same}
 use Rattle.helping.proofs.Touch.{Going}
@@ -35,13 +35,13 @@ GrabWay T i l seen own x y U =
     ((x ≡ freeAt seen) × (y ≡ record { turn = suc seen; holder = By own }) × (U ≡ winTale T i l))
 
 pub grab-way :
-    (T : Tale) (i l seen own : ℕ) (x : LockWord) → GrabWay T i l seen own x (grabOf x seen own) (grabTale T i l x seen)
-unfolding grabOf grabTale
+    (T : Tale) (i l seen own : ℕ) (x : LockWord) → GrabWay T i l seen own x (machineGrab x seen own) (grabTale T i l x seen)
+unfolding machineGrab grabTale
 grab-way T i l seen own x = way (x .turn) (x .holder)
   where
     way :
         (t : ℕ) (h : Holder) →
-        GrabWay T i l seen own (record { turn = t; holder = h }) (grabOf (record { turn = t; holder = h }) seen own)
+        GrabWay T i l seen own (record { turn = t; holder = h }) (machineGrab (record { turn = t; holder = h }) seen own)
         (grabTale T i l (record { turn = t; holder = h }) seen)
     way t Free = go (eqb t seen) refl
       where
@@ -59,10 +59,10 @@ module _ (K : Rules) (E : Scene) (T : Tale) (st : ℕ → Status) (o : Ok K E T 
 
   grab-ok :
       (seen : ℕ) → k .state ≡ UnderWay (Grab seen) →
-      Next K (onTo (setLock E (k .lock) (grabOf (E .lock (k .lock)) seen (k .own))) i k (UnderWay (LookAgain (suc seen))))
+      Next K (onTo (setLock E (k .lock) (machineGrab (E .lock (k .lock)) seen (k .own))) i k (UnderWay (LookAgain (suc seen))))
       (grabTale T i (k .lock) (E .lock (k .lock)) seen)
   grab-ok seen e =
-      go (grabOf (E .lock (k .lock)) seen (k .own)) (grabTale T i (k .lock) (E .lock (k .lock)) seen)
+      go (machineGrab (E .lock (k .lock)) seen (k .own)) (grabTale T i (k .lock) (E .lock (k .lock)) seen)
       (grab-way T i (k .lock) seen (k .own) (E .lock (k .lock)))
     where
       q : PointOk K (viewOf E st) (k .own) (k .lock) (Grab seen)
@@ -90,7 +90,7 @@ module _ (K : Rules) (E : Scene) (T : Tale) (st : ℕ → Status) (o : Ok K E T 
             st = _;
             ok =
                 takes K (onTo E i k (UnderWay (LookAgain (suc seen)))) T st on i
-                (movedOf k (UnderWay (LookAgain (suc seen)))) (put-same (E .worker) i _) seen refl (q .0) (q .1) (z .0)
+                (machineMoved k (UnderWay (LookAgain (suc seen)))) (put-same (E .worker) i _) seen refl (q .0) (q .1) (z .0)
                 (q .2);
           }))
 

@@ -16,8 +16,8 @@ use Rattle.steps.specs.declared.Stage.the-variants.{Read, Commit, Swap, Mark, R
 use Rattle.steps.specs.declared.State.{State}
 use Rattle.steps.specs.declared.State.the-variants.{UnderWay, Finished}
 use Rattle.steps.specs.declared.Worker.{Worker}
-use Rattle.helping.specs.Machine.{Rules, Scene, Tale, stepAt, winTale, stepTale, begunOf, beginTale, idledOf}
-use Rattle.helping.specs.Ok.{Status, viewOf, Named, Busy, Ok, Over}
+use Rattle.helping.specs.Machine.{Rules, Scene, Tale, stepAt, winTale, stepTale, machineBegun, beginTale, idledOf}
+use Rattle.helping.specs.Ok.{Status, viewOf, Named, NotIdle, Ok, Over}
 use Rattle.helping.proofs.Put.{put-other, put-at, all-but}
 use Rattle.helping.proofs.Wins.{absent-win}
 use Rattle.helping.proofs.Moves.{grab-way}
@@ -31,18 +31,18 @@ over-told K E T st o i e =
       none = subst (Named K T (viewOf E st) (T .tries i) (E .worker i)) e (o .named i) .1;
       gone =
           λ m p h same.
-          let at : m ≡ i = o .ids m i (subst Busy (sym h) tt) (busy e) same in
+          let at : m ≡ i = o .ids m i (subst NotIdle (sym h) tt) (busy e) same in
           let both : UnderWay p ≡ Finished NotTaken = sym h ∙ ap (λ m. E .worker m .state) at ∙ e in
           let z : _≡_ {A = ℕ} 0 1 = cc in
           absurd (omega arith);
     }
   where
-    busy : {s : State} → s ≡ Finished NotTaken → Busy s
-    busy h = subst Busy (sym h) tt
+    busy : {s : State} → s ≡ Finished NotTaken → NotIdle s
+    busy h = subst NotIdle (sym h) tt
 
 pub over-begin :
     (E : Scene) (T : Tale) (n i l s : ℕ) (code : List Instr) → Over E T n →
-    Over (begunOf E i l code s) (beginTale T i l code) n
+    Over (machineBegun E i l code s) (beginTale T i l code) n
 over-begin E T n i l s code v =
     record { begun = omega (arith, v .begun); none = v .none; gone = λ m p h. go m p (eqb m i) h }
   where

@@ -21,9 +21,9 @@ use Rattle.steps.specs.declared.State.the-variants.{UnderWay, Finished}
 use Rattle.alone.specs.Alone.{aloneOf}
 use Rattle.alone.specs.Jobs.{givesOf}
 use Rattle.alone.proofs.Jobs.{gives-length}
-use Rattle.helping.specs.Machine.{Rules, Scene, Tale, actAt, fin, put, setLock, onTo, releaseOf}
+use Rattle.helping.specs.Machine.{Rules, Scene, Tale, actAt, fin, put, setLock, onTo, machineRelease}
 use Rattle.helping.specs.Ideal.{Job, Ideal, actIn}
-use Rattle.helping.specs.Ok.{Status, viewOf, PointOk, Begins, Listed, Says, AnswerOk, TryOk, Ok, Next}
+use Rattle.helping.specs.Ok.{Status, viewOf, PointOk, JobBegins, Listed, Says, AnswerOk, TryOk, Ok, Next}
 use Rattle.helping.proofs.Run.{stays}
 use Rattle.helping.proofs.Alone.{done-alone}
 use Rattle.helping.proofs.Change.{on-sheet}
@@ -38,11 +38,11 @@ at t h = record { turn = t; holder = h }
 abbrev ReleaseWay : LockWord → LockWord → ℕ → ℕ → Type 0
 ReleaseWay x y won s = (y ≡ x) ⊎ ((x ≡ at won (By s)) × (y ≡ freeAt won))
 
-release-way : (x : LockWord) (won s : ℕ) → ReleaseWay x (releaseOf x won s) won s
-unfolding releaseOf
+release-way : (x : LockWord) (won s : ℕ) → ReleaseWay x (machineRelease x won s) won s
+unfolding machineRelease
 release-way x won s = way (x .turn) (x .holder)
   where
-    way : (t : ℕ) (h : Holder) → ReleaseWay (at t h) (releaseOf (at t h) won s) won s
+    way : (t : ℕ) (h : Holder) → ReleaseWay (at t h) (machineRelease (at t h) won s) won s
     way t Free = inl refl
     way t (By a) = go (eqb a s) (eqb t won) refl refl
       where
@@ -75,8 +75,8 @@ module _ (K : Rules) (E : Scene) (T : Tale) (st : ℕ → Status) (o : Ok K E T 
       let J : Job = st (r .sheet) .job in
       let f = on-sheet K E T st o (r .sheet) (here .0 .0 .won .is) in
       let code : J .code ≡ T .tries i .program = f .code ∙ ap (E .program) z ∙ named .program in
-      let L : Listed (Begins K J) (T .tries i) (T .won (T .tries i .lock)) =
-      subst (λ (s : ℕ). Listed (Begins K (st s .job)) (T .tries i) (T .won (T .tries i .lock))) (sym z)
+      let L : Listed (JobBegins K J) (T .tries i) (T .won (T .tries i .lock)) =
+      subst (λ (s : ℕ). Listed (JobBegins K (st s .job)) (T .tries i) (T .won (T .tries i .lock))) (sym z)
       (named .listed (λ u. here .0 .0 .won .is (ap (λ (s : ℕ). st s .kind) z ∙ u))) in
       record {
         later = L .later;
@@ -106,8 +106,8 @@ module _ (K : Rules) (E : Scene) (T : Tale) (st : ℕ → Status) (o : Ok K E T 
   told F = onTo F i (E .worker i) (Finished (answerOf r own said))
 
   pub release-ok :
-      Next K (told (setLock E l (releaseOf (E .lock l) (r .won) (r .sheet)))) T
-  release-ok = go (releaseOf (E .lock l) (r .won) (r .sheet)) (release-way (E .lock l) (r .won) (r .sheet))
+      Next K (told (setLock E l (machineRelease (E .lock l) (r .won) (r .sheet)))) T
+  release-ok = go (machineRelease (E .lock l) (r .won) (r .sheet)) (release-way (E .lock l) (r .won) (r .sheet))
     where
       go : (y : LockWord) → ReleaseWay (E .lock l) y (r .won) (r .sheet) → Next K (told (setLock E l y)) T
       go y (inl z) =

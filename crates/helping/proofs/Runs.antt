@@ -12,7 +12,7 @@ use Rattle.steps.specs.declared.Stage.{Stage}
 use Rattle.steps.specs.declared.Stage.the-variants.{Mark, Release}
 use Rattle.steps.specs.declared.State.the-variants.{UnderWay}
 use Rattle.helping.specs.Machine.{Rules, Scene, Shared, Pace, Tale, put, setLock, setDone, sharedOf, setShared, pointOf, onTo, paceOf, pacedOf}
-use Rattle.helping.specs.Ideal.{Job, Stands}
+use Rattle.helping.specs.Ideal.{Job, RunStands}
 use Rattle.helping.specs.Ok.{Kind, unwon, current, past, Status, View, viewOf, sharedAt, Won, RunsAt, PointOk, Ok, Next}
 use Rattle.helping.proofs.Put.{put-same, put-other, put-idle}
 use Rattle.helping.proofs.Distinct.{won-kind}
@@ -27,7 +27,7 @@ use Rattle.helping.proofs.Looks.{mine, goes}
 -- a run of sheet s, which won at this turn, by what is known of the sheet
 run-point :
     (K : Rules) (v : View) (own l s won : ℕ) → (s ≢ own → v .st own .kind ≡ unwon) → Won (v .st s) l won → (r : Run)
-    (at : Stage) → OnRun s won r at → Stands (v .st s .job) (v .st s .front) (sharedAt v s) r at →
+    (at : Stage) → OnRun s won r at → RunStands (v .st s .job) (v .st s .front) (sharedAt v s) r at →
     PointOk K v own l (Point.Run r at)
 run-point K v own l s won help w r at a t = (
   (
@@ -35,7 +35,7 @@ run-point K v own l s won help w r at a t = (
       help = λ n. help (λ z. n (a .0 ∙ z));
       won = subst (λ (m : ℕ). Won (v .st m) l (r .won)) (sym (a .0)) (subst (Won (v .st s) l) (sym (a .1)) w);
     },
-    subst (λ (m : ℕ). Stands (v .st m .job) (v .st m .front) (sharedAt v m) r at) (sym (a .0)) t,
+    subst (λ (m : ℕ). RunStands (v .st m .job) (v .st m .front) (sharedAt v m) r at) (sym (a .0)) t,
   ),
   λ z. absurd (a .2 z),
 )
@@ -112,9 +112,9 @@ module _ (K : Rules) (E : Scene) (T : Tale) (st : ℕ → Status) (o : Ok K E T 
               (record { is = won-kind current (omega arith); lock = w .lock; turn = w .turn }))
               (b .run) (b .stage) (run-on (J .code) (sharedOf E s) r at g)
               (subst
-              (λ (σ : Status). Stands (σ .job) (σ .front) (sharedAt (viewOf (setShared E s (b .shared)) after) s) (b .run) (b .stage))
+              (λ (σ : Status). RunStands (σ .job) (σ .front) (sharedAt (viewOf (setShared E s (b .shared)) after) s) (b .run) (b .stage))
               (sym here)
-              (subst (λ (x : Shared). Stands J (C .to) x (b .run) (b .stage))
+              (subst (λ (x : Shared). RunStands J (C .to) x (b .run) (b .stage))
               (sym (shared-there K E T st o s cur (b .shared) (C .to) t (C .inv) (C .moved))) (C .stands))));
         }
 

@@ -9,7 +9,7 @@ use Rattle.parts.specs.declared.Fill.the-variants.{Empty, Filled}
 use Rattle.parts.specs.declared.Holder.the-variants.{By}
 use Rattle.parts.specs.declared.LockWord.{LockWord}
 use Rattle.helping.specs.Machine.{Rules, target}
-use Rattle.helping.specs.Ideal.{Job, idealOf, actIn, Touches, metIn, entryIn, Guarded, FineJob, Inv, Old, Moved}
+use Rattle.helping.specs.Ideal.{Job, idealOf, actIn, Touches, metIn, loggedIn, Guarded, FineJob, Inv, Old, Moved}
 use Rattle.helping.specs.Ok.{Kind, unwon, current, past, Status, View, sharedAt, OnSheet, SheetOk}
 use Rattle.helping.proofs.Distinct.{won-kind}
 use Rattle.helping.proofs.Run.{logs}
@@ -37,7 +37,7 @@ module _ (K : Rules) (v v′ : View) (lock lock′ : ℕ → LockWord) (s : ℕ)
       }
 
   -- its entries are what they were
-  entry-spared : (J : Job) (j : ℕ) → entryIn J (sharedAt v′ s) j ≡ entryIn J (sharedAt v s) j
+  entry-spared : (J : Job) (j : ℕ) → loggedIn J (sharedAt v′ s) j ≡ loggedIn J (sharedAt v s) j
   entry-spared J j = ap (λ (f : ℕ → Fill). f (idealOf J j .place)) (c .log)
 
   spared-at : (κ : Kind) → v .st s .kind ≡ κ → SheetOk K v lock s κ → SheetOk K v′ lock′ s κ
@@ -79,7 +79,7 @@ module _ (K : Rules) (v v′ : View) (lock lock′ : ℕ → LockWord) (s : ℕ)
   -- a word of which a run of the sheet has to write yet is what it was
   still-at :
       (κ : Kind) → v .st s .kind ≡ κ → SheetOk K v lock s κ → v .st s .kind ≢ unwon → (j : ℕ) → j ≤ v .st s .front →
-      Touches (actIn (v .st s .job) j) → entryIn (v .st s .job) (sharedAt v′ s) j ≡ Empty →
+      Touches (actIn (v .st s .job) j) → loggedIn (v .st s .job) (sharedAt v′ s) j ≡ Empty →
       v′ .word (target (actIn (v .st s .job) j)) ≡ v .word (target (actIn (v .st s .job) j))
   still-at unwon e q n j h m z = absurd (n e)
   still-at current e q n j h m z =

@@ -13,8 +13,8 @@ use Rattle.parts.specs.declared.Reading.{Reading}
 use Rattle.steps.specs.declared.Run.{Run}
 use Rattle.steps.specs.declared.Stage.{Stage}
 use Rattle.steps.specs.declared.Stage.the-variants.{Read, Commit, Swap, Mark, Release}
-use Rattle.helping.specs.Machine.{Rules, Shared, Pace, Act, fin, go, touch, target, put, ontoOf, loggedOf, heldOf, swapOf, readOf, followOf, commitOf, paceOf}
-use Rattle.helping.specs.Ideal.{Job, idealOf, actIn, Logs, Touches, metIn, Follow, entryIn, farOf, FineJob, Old, At, In, Stands}
+use Rattle.helping.specs.Machine.{Rules, Shared, Pace, Act, fin, go, touch, target, put, machineOnto, machineLogged, heldOf, machineSwap, machineRead, machineFollow, machineCommit, paceOf}
+use Rattle.helping.specs.Ideal.{Job, idealOf, actIn, Logs, Touches, metIn, Follow, loggedIn, farOf, FineJob, Old, At, In, RunStands}
 use Rattle.helping.proofs.Put.{put-idle}
 use Rattle.helping.proofs.Run.{swapped}
 use Rattle.helping.proofs.Inside.{touches, names-in, asks-same, go-on, done-on, swap-on}
@@ -22,7 +22,7 @@ use Rattle.helping.proofs.Commit.{swap-late}
 
 pub record Still (J : Job) (n : ℕ) (x : Shared) (b : Pace) : Type 0 where
   pub same : b .shared ≡ x
-  pub stands : Stands J n x (b .run) (b .stage)
+  pub stands : RunStands J n x (b .run) (b .stage)
 
 module _ (K : Rules) (J : Job) (n : ℕ) (x : Shared) (o : Old K J n x) (j : ℕ) (h : j ≤ n) where
   -- an instruction that is not the halt comes before it
@@ -31,11 +31,11 @@ module _ (K : Rules) (J : Job) (n : ℕ) (x : Shared) (o : Old K J n x) (j : ℕ
       ⊎-elim (λ (z : j ≡ n). absurd (d (subst P (ap (actIn J) z ∙ o .halts) p))) (λ (z : j < n). z) (eq-or-lt-of-le h)
 
   -- its entries up to the halt are filled
-  pub entered : Logs (actIn J j) → entryIn J x j ≡ Filled (metIn J j)
+  pub entered : Logs (actIn J j) → loggedIn J x j ≡ Filled (metIn J j)
   entered t = o .past j (before Logs t (λ e. e)) t
 
   read-still :
-      (r : Run) → At J j r → r .place ≡ idealOf J j .place → (a : Act) → actIn J j ≡ a → Still J n x (readOf a x r)
+      (r : Run) → At J j r → r .place ≡ idealOf J j .place → (a : Act) → actIn J j ≡ a → Still J n x (machineRead a x r)
   read-still r at p (fin said) e =
       record { same = refl; stands = record { j = j; behind = h; inn = (at, p, e) } }
   read-still r at p (go rs k) e =
@@ -61,7 +61,7 @@ module _ (K : Rules) (J : Job) (n : ℕ) (x : Shared) (o : Old K J n x) (j : ℕ
 
   follow-still :
       (r : Run) → At J j r → r .place ≡ suc (idealOf J j .place) → Logs (actIn J j) → (s : Follows) →
-      Follow (actIn J j) (metIn J j .value) s → Stands J n x (followOf s x r (metIn J j) .run) (followOf s x r (metIn J j) .stage)
+      Follow (actIn J j) (metIn J j .value) s → RunStands J n x (machineFollow s x r (metIn J j) .run) (machineFollow s x r (metIn J j) .stage)
   follow-still r at p t (follows.Done rs) g =
       record { j = suc j; behind = before Logs t (λ e. e); inn = done-on J j r at x rs g p }
   follow-still r at p t (follows.Swap new) g =
@@ -69,7 +69,7 @@ module _ (K : Rules) (J : Job) (n : ℕ) (x : Shared) (o : Old K J n x) (j : ℕ
 
   commit-still :
       (r : Run) (u : Reading) → At J j r → r .place ≡ idealOf J j .place → Logs (actIn J j) → (a : Act) →
-      actIn J j ≡ a → Still J n x (commitOf a x r u)
+      actIn J j ≡ a → Still J n x (machineCommit a x r u)
   commit-still r u at p t (fin said) e = absurd (subst Logs e t)
   commit-still r u at p t (go rs k) e = absurd (subst Logs e t)
   commit-still r u at p t (touch w g) e =
@@ -77,13 +77,13 @@ module _ (K : Rules) (J : Job) (n : ℕ) (x : Shared) (o : Old K J n x) (j : ℕ
       subst
       (λ (fill : Fill).
       Still J n x
-      (followOf (g (heldOf fill u .value)) (record { word = x .word; log = put (x .log) (r .place) (Filled (heldOf fill u)) }) (loggedOf r)
+      (machineFollow (g (heldOf fill u .value)) (record { word = x .word; log = put (x .log) (r .place) (Filled (heldOf fill u)) }) (machineLogged r)
       (heldOf fill u)))
       (sym q)
       (record {
         same = ap (λ (l : ℕ → Fill). record { word = x .word; log = l }) (put-idle (x .log) (r .place) _ (sym q));
         stands =
-            follow-still (loggedOf r) (record { next = at .next; registers = at .registers }) (ap suc p) t _
+            follow-still (machineLogged r) (record { next = at .next; registers = at .registers }) (ap suc p) t _
             (subst (λ (a : Act). Follow a (metIn J j .value) (g (metIn J j .value))) (sym e) refl);
       })
 
@@ -93,8 +93,8 @@ module _ (K : Rules) (J : Job) (n : ℕ) (x : Shared) (o : Old K J n x) (j : ℕ
       let w = target (actIn J j) in
       Still J n x
       (record {
-        shared = record { word = put (x .word) w (swapOf (x .word w) (metIn J j) new); log = x .log };
-        run = ontoOf r 0 (r .registers);
+        shared = record { word = put (x .word) w (machineSwap (x .word w) (metIn J j) new); log = x .log };
+        run = machineOnto r 0 (r .registers);
         stage = Read;
       })
   swap-still f r new at p g =
@@ -112,15 +112,15 @@ module _ (K : Rules) (J : Job) (n : ℕ) (x : Shared) (o : Old K J n x) (j : ℕ
   stage-still : FineJob K J → (r : Run) (s : Stage) → In J j x r s → Still J n x (paceOf (J .code) x r s)
   unfolding paceOf
   stage-still f r Read (at, p) =
-      subst (λ (a : Act). Still J n x (readOf a x r)) (sym (asks-same J j r at)) (read-still r at p (actIn J j) refl)
+      subst (λ (a : Act). Still J n x (machineRead a x r)) (sym (asks-same J j r at)) (read-still r at p (actIn J j) refl)
   stage-still f r (Commit u) (at, p, t, w) =
-      subst (λ (a : Act). Still J n x (commitOf a x r u)) (sym (asks-same J j r at))
+      subst (λ (a : Act). Still J n x (machineCommit a x r u)) (sym (asks-same J j r at))
       (commit-still r u at p t (actIn J j) refl)
   stage-still f r (Swap e new) (at, p, g, d, q) = rw (asks-same J j r at, d) (swap-still f r new at p g)
   stage-still f r (Mark said) i = record { same = refl; stands = record { j = j; behind = h; inn = i } }
   stage-still f r (Release said) i = record { same = refl; stands = record { j = j; behind = h; inn = i } }
 
 pub stale :
-    (K : Rules) (J : Job) → FineJob K J → (n : ℕ) (x : Shared) (r : Run) (at : Stage) → Old K J n x → Stands J n x r at →
+    (K : Rules) (J : Job) → FineJob K J → (n : ℕ) (x : Shared) (r : Run) (at : Stage) → Old K J n x → RunStands J n x r at →
     Still J n x (paceOf (J .code) x r at)
 stale K J f n x r at o t = stage-still K J n x o (t .j) (t .behind) f r at (t .inn)

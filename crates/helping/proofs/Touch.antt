@@ -14,8 +14,8 @@ use Rattle.parts.specs.declared.Reading.{Reading}
 use Rattle.steps.specs.declared.Run.{Run}
 use Rattle.steps.specs.declared.Stage.{Stage}
 use Rattle.steps.specs.declared.Stage.the-variants.{Read, Commit, Swap, Mark, Release}
-use Rattle.helping.specs.Machine.{Rules, Shared, Pace, Act, fin, go, touch, actAt, target, put, loggedOf, heldOf, swapOf, readOf, followOf, commitOf, paceOf}
-use Rattle.helping.specs.Ideal.{Job, raised, idealOf, actIn, Logs, Guarded, farOf, FineJob, At, In, Stands, leftAt}
+use Rattle.helping.specs.Machine.{Rules, Shared, Pace, Act, fin, go, touch, actAt, target, put, machineLogged, heldOf, machineSwap, machineRead, machineFollow, machineCommit, paceOf}
+use Rattle.helping.specs.Ideal.{Job, raised, idealOf, actIn, Logs, Guarded, farOf, FineJob, At, In, RunStands, leftAt}
 use Rattle.helping.specs.Ok.{Releasing}
 use Rattle.helping.proofs.Put.{put-case, put-other}
 use Rattle.helping.proofs.Run.{next-in}
@@ -26,8 +26,8 @@ pub record Touched (K : Rules) (J : Job) (x x′ : Shared) : Type 0 where
   pub words : (q : ℕ) → (Guarded K (J .lock) q → ⊥) → x′ .word q ≡ x .word q
   pub counts : (q : ℕ) → x .word q .count ≤ x′ .word q .count
 
-swap-count : (u e : Reading) (new : ℕ) → u .count ≤ swapOf u e new .count
-unfolding swapOf
+swap-count : (u e : Reading) (new : ℕ) → u .count ≤ machineSwap u e new .count
+unfolding machineSwap
 swap-count u e new = by (eqb (u .value) (e .value)) (eqb (u .count) (e .count))
   where
     by : (b c : Bool) → u .count ≤ pick b (pick c (raised u new) u) u .count
@@ -39,24 +39,24 @@ module _ (K : Rules) (J : Job) (f : FineJob K J) (x : Shared) where
   untouched : Touched K J x x
   untouched = record { words = λ q n. refl; counts = λ q. le-refl _ }
 
-  read-touched : (a : Act) (r : Run) → Touched K J x (readOf a x r .shared)
+  read-touched : (a : Act) (r : Run) → Touched K J x (machineRead a x r .shared)
   read-touched (fin said) r = untouched
   read-touched (go rs n) r = untouched
   read-touched (touch w g) r = untouched
 
-  commit-touched : (a : Act) (r : Run) (u : Reading) → Touched K J x (commitOf a x r u .shared)
+  commit-touched : (a : Act) (r : Run) (u : Reading) → Touched K J x (machineCommit a x r u .shared)
   commit-touched (fin said) r u = untouched
   commit-touched (go rs n) r u = untouched
   commit-touched (touch w g) r u = record { words = λ q n. refl; counts = λ q. le-refl _ }
 
   swap-touched :
       (w : ℕ) (e : Reading) (new : ℕ) → Guarded K (J .lock) w →
-      Touched K J x (record { word = put (x .word) w (swapOf (x .word w) e new); log = x .log })
+      Touched K J x (record { word = put (x .word) w (machineSwap (x .word w) e new); log = x .log })
   swap-touched w e new g =
       record {
         words = λ q n. put-other (x .word) w _ q (λ z. n (subst (Guarded K (J .lock)) (sym z) g));
         counts = λ q.
-            put-case (x .word) w (swapOf (x .word w) e new) (λ (u : Reading). x .word q .count ≤ u .count) q
+            put-case (x .word) w (machineSwap (x .word w) e new) (λ (u : Reading). x .word q .count ≤ u .count) q
             (λ z. omega (arith, ap (λ k. x .word k .count) z, swap-count (x .word w) e new)) (λ z. le-refl _);
       }
 
@@ -71,7 +71,7 @@ module _ (K : Rules) (J : Job) (f : FineJob K J) (x : Shared) where
   in-touched j r (Release said) i = untouched
 
 pub touched :
-    (K : Rules) (J : Job) → FineJob K J → (n : ℕ) (x : Shared) (r : Run) (at : Stage) → Stands J n x r at →
+    (K : Rules) (J : Job) → FineJob K J → (n : ℕ) (x : Shared) (r : Run) (at : Stage) → RunStands J n x r at →
     Touched K J x (paceOf (J .code) x r at .shared)
 touched K J f n x r at t = in-touched K J f x (t .j) r at (t .inn)
 
@@ -82,19 +82,19 @@ OnRun s won r at = (r .sheet ≡ s) × (r .won ≡ won) × (Releasing at → ⊥
 abbrev OnFrom : Run → Pace → Type 0
 OnFrom r b = OnRun (r .sheet) (r .won) (b .run) (b .stage)
 
-read-on : (a : Act) (x : Shared) (r : Run) → OnFrom r (readOf a x r)
+read-on : (a : Act) (x : Shared) (r : Run) → OnFrom r (machineRead a x r)
 read-on (fin said) x r = (refl, refl, λ z. z)
 read-on (go rs n) x r = (refl, refl, λ z. z)
 read-on (touch w f) x r = (refl, refl, λ z. z)
 
-follow-on : (f : Follows) (x : Shared) (r : Run) (e : Reading) → OnFrom r (followOf f x r e)
+follow-on : (f : Follows) (x : Shared) (r : Run) (e : Reading) → OnFrom r (machineFollow f x r e)
 follow-on (follows.Done rs) x r e = (refl, refl, λ z. z)
 follow-on (follows.Swap new) x r e = (refl, refl, λ z. z)
 
-commit-on : (a : Act) (x : Shared) (r : Run) (u : Reading) → OnFrom r (commitOf a x r u)
+commit-on : (a : Act) (x : Shared) (r : Run) (u : Reading) → OnFrom r (machineCommit a x r u)
 commit-on (fin said) x r u = (refl, refl, λ z. z)
 commit-on (go rs n) x r u = (refl, refl, λ z. z)
-commit-on (touch w f) x r u = let e = heldOf (x .log (r .place)) u in follow-on (f (e .value)) x (loggedOf r) e
+commit-on (touch w f) x r u = let e = heldOf (x .log (r .place)) u in follow-on (f (e .value)) x (machineLogged r) e
 
 -- it is at an instruction, and not past them
 abbrev pub Going : Stage → Type 0
@@ -118,19 +118,19 @@ leftBy most b = leftAt most (b .run) (b .stage)
 
 -- an instruction that has room to go on
 module _ (most : ℕ) (x : Shared) (r : Run) where
-  read-paced : (a : Act) → r .next + farOf a < most → leftBy most (readOf a x r) < leftAt most r Read
+  read-paced : (a : Act) → r .next + farOf a < most → leftBy most (machineRead a x r) < leftAt most r Read
   read-paced (fin said) h = omega arith
   read-paced (go rs n) h = omega arith
   read-paced (touch w f) h = omega arith
 
   commit-paced :
       (u : Reading) (a : Act) → Logs a → r .next + farOf a < most →
-      leftBy most (commitOf a x r u) < leftAt most r (Commit u)
+      leftBy most (machineCommit a x r u) < leftAt most r (Commit u)
   commit-paced u (fin said) t h = absurd t
   commit-paced u (go rs n) t h = absurd t
   commit-paced u (touch w f) t h = by (f (heldOf (x .log (r .place)) u .value))
     where
-      by : (g : Follows) → leftBy most (followOf g x (loggedOf r) (heldOf (x .log (r .place)) u)) < leftAt most r (Commit u)
+      by : (g : Follows) → leftBy most (machineFollow g x (machineLogged r) (heldOf (x .log (r .place)) u)) < leftAt most r (Commit u)
       by (follows.Done rs) = omega arith
       by (follows.Swap new) = omega arith
 
@@ -152,6 +152,6 @@ module _ (K : Rules) (J : Job) (f : FineJob K J) (x : Shared) (j : ℕ) where
   in-paced r (Release said) i g = absurd g
 
 pub paced :
-    (K : Rules) (J : Job) → FineJob K J → (n : ℕ) (x : Shared) (r : Run) (at : Stage) → Stands J n x r at → Going at →
+    (K : Rules) (J : Job) → FineJob K J → (n : ℕ) (x : Shared) (r : Run) (at : Stage) → RunStands J n x r at → Going at →
     leftAt (K .most) (paceOf (J .code) x r at .run) (paceOf (J .code) x r at .stage) < leftAt (K .most) r at
 paced K J f n x r at t g = in-paced K J f x (t .j) r at (t .inn) g

@@ -13,7 +13,7 @@ use Rattle.steps.specs.declared.State.{State}
 use Rattle.steps.specs.declared.Worker.{Worker}
 use Rattle.alone.specs.Jobs.{Try, times}
 use Rattle.helping.specs.Machine.{Rules, Tale, winTale}
-use Rattle.helping.specs.Ok.{View, Listed, Absent, Named, Busy}
+use Rattle.helping.specs.Ok.{View, Listed, Absent, Named, NotIdle}
 use Rattle.helping.proofs.Put.{put-at}
 use Rattle.helping.proofs.Frame.{retold}
 
@@ -81,7 +81,7 @@ module _ (T : Tale) (i l : ℕ) where
 
   -- what is told of the try of another worker
   pub named-win :
-      (K : Rules) (v : View) (t : Try) (k : Worker) (s : State) → (Busy s → T .tries i .number ≢ t .number) →
+      (K : Rules) (v : View) (t : Try) (k : Worker) (s : State) → (NotIdle s → T .tries i .number ≢ t .number) →
       Named K T v t k s → Named K (winTale T i l) v t k s
   named-win K v t k s z =
       retold K T (winTale T i l) v t k s (λ b. absent-win (t .number) (z b)) (λ P. listed-win P t (t .lock))

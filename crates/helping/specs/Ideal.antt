@@ -83,8 +83,8 @@ Follow (fin said) v x = ⊥
 Follow (go rs n) v x = ⊥
 Follow (touch w f) v x = f v ≡ x
 
-abbrev pub entryIn : Job → Shared → ℕ → Fill
-entryIn J x n = x .log (idealOf J n .place)
+abbrev pub loggedIn : Job → Shared → ℕ → Fill
+loggedIn J x n = x .log (idealOf J n .place)
 
 -- word q is one of the words, and lock l guards it
 abbrev pub Guarded : Rules → ℕ → ℕ → Type 0
@@ -110,8 +110,8 @@ FineJob K J = Fine K (J .lock) (J .code)
 -- it met; that of n is empty or so filled; every place of the log after it is empty.
 pub record Inv (K : Rules) (J : Job) (n : ℕ) (x : Shared) : Type 0 where
   pub words : (q : ℕ) → Guarded K (J .lock) q → x .word q ≡ idealOf J n .words q
-  pub past : (j : ℕ) → j < n → Logs (actIn J j) → entryIn J x j ≡ Filled (metIn J j)
-  pub here : Logs (actIn J n) → (entryIn J x n ≡ Empty) ⊎ (entryIn J x n ≡ Filled (metIn J n))
+  pub past : (j : ℕ) → j < n → Logs (actIn J j) → loggedIn J x j ≡ Filled (metIn J j)
+  pub here : Logs (actIn J n) → (loggedIn J x n ≡ Empty) ⊎ (loggedIn J x n ≡ Filled (metIn J n))
   pub later : (p : ℕ) → idealOf J (suc n) .place ≤ p → x .log p ≡ Empty
 
 -- Of a sheet that let go of its lock: the log is complete up to a halt at n, and the counts of the lock's words are at least what
@@ -119,7 +119,7 @@ pub record Inv (K : Rules) (J : Job) (n : ℕ) (x : Shared) : Type 0 where
 pub record Old (K : Rules) (J : Job) (n : ℕ) (x : Shared) : Type 0 where
   pub said : Bool
   pub halts : actIn J n ≡ fin said
-  pub past : (j : ℕ) → j < n → Logs (actIn J j) → entryIn J x j ≡ Filled (metIn J j)
+  pub past : (j : ℕ) → j < n → Logs (actIn J j) → loggedIn J x j ≡ Filled (metIn J j)
   pub counts : (q : ℕ) → Guarded K (J .lock) q → idealOf J n .words q .count ≤ x .word q .count
 
 -- a run with the registers of the ideal run's instruction j, before it
@@ -133,14 +133,14 @@ abbrev pub In : Job → ℕ → Shared → Run → Stage → Type 0
 In J j x r Read = At J j r × (r .place ≡ idealOf J j .place)
 In J j x r (Commit u) =
     At J j r × (r .place ≡ idealOf J j .place) × Logs (actIn J j) ×
-    (Touches (actIn J j) → entryIn J x j ≡ Empty → u ≡ x .word (target (actIn J j)))
+    (Touches (actIn J j) → loggedIn J x j ≡ Empty → u ≡ x .word (target (actIn J j)))
 In J j x r (Swap e new) =
     At J j r × (r .place ≡ suc (idealOf J j .place)) × Follow (actIn J j) (metIn J j .value) (follows.Swap new) ×
-    (e ≡ metIn J j) × (entryIn J x j ≡ Filled (metIn J j))
+    (e ≡ metIn J j) × (loggedIn J x j ≡ Filled (metIn J j))
 In J j x r (Mark said) = At J j r × (r .place ≡ idealOf J j .place) × (actIn J j ≡ fin said)
 In J j x r (Release said) = At J j r × (r .place ≡ idealOf J j .place) × (actIn J j ≡ fin said)
 
-pub record Stands (J : Job) (n : ℕ) (x : Shared) (r : Run) (at : Stage) : Type 0 where
+pub record RunStands (J : Job) (n : ℕ) (x : Shared) (r : Run) (at : Stage) : Type 0 where
   pub j : ℕ
   pub behind : j ≤ n
   pub inn : In J j x r at
@@ -148,17 +148,17 @@ pub record Stands (J : Job) (n : ℕ) (x : Shared) (r : Run) (at : Stage) : Type
 -- what a step may do to the shared state, as any other run of the sheet sees it
 pub record Moved (J : Job) (n : ℕ) (x : Shared) (n′ : ℕ) (x′ : Shared) : Type 0 where
   pub up : n ≤ n′
-  pub kept : (j : ℕ) → Logs (actIn J j) → entryIn J x′ j ≡ Empty → entryIn J x j ≡ Empty
-  pub holds : (j : ℕ) (e : Reading) → Logs (actIn J j) → entryIn J x j ≡ Filled e → entryIn J x′ j ≡ Filled e
+  pub kept : (j : ℕ) → Logs (actIn J j) → loggedIn J x′ j ≡ Empty → loggedIn J x j ≡ Empty
+  pub holds : (j : ℕ) (e : Reading) → Logs (actIn J j) → loggedIn J x j ≡ Filled e → loggedIn J x′ j ≡ Filled e
   pub still :
-      (j : ℕ) → j ≤ n → Touches (actIn J j) → entryIn J x′ j ≡ Empty →
+      (j : ℕ) → j ≤ n → Touches (actIn J j) → loggedIn J x′ j ≡ Empty →
       x′ .word (target (actIn J j)) ≡ x .word (target (actIn J j))
 
 -- after a step: the new frontier, the invariant there, and where the run stands
-pub record Kept (K : Rules) (J : Job) (n : ℕ) (x : Shared) (b : Pace) : Type 0 where
+pub record StepKeeps (K : Rules) (J : Job) (n : ℕ) (x : Shared) (b : Pace) : Type 0 where
   pub to : ℕ
   pub inv : Inv K J to (b .shared)
-  pub stands : Stands J to (b .shared) (b .run) (b .stage)
+  pub stands : RunStands J to (b .shared) (b .run) (b .stage)
   pub moved : Moved J n x to (b .shared)
 
 -- the steps that a run has left, at most; most - 1 - next instructions follow the one that it is at

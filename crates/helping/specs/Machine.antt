@@ -124,12 +124,12 @@ target (go r n) = 0
 target (touch w f) = w
 
 -- a run at its next instruction, some passed over; and with one entry more behind it
-abbrev pub ontoOf : Run → ℕ → Registers → Run
-ontoOf r over rs =
+abbrev pub machineOnto : Run → ℕ → Registers → Run
+machineOnto r over rs =
     record { sheet = r .sheet; won = r .won; next = suc (r .next + over); place = r .place; registers = rs }
 
-abbrev pub loggedOf : Run → Run
-loggedOf r =
+abbrev pub machineLogged : Run → Run
+machineLogged r =
     record { sheet = r .sheet; won = r .won; next = r .next; place = suc (r .place); registers = r .registers }
 
 -- "Commit: if the log entry at the place is empty it takes the value and count read; either way the worker goes on with what the
@@ -138,8 +138,8 @@ abbrev pub heldOf : Fill → Reading → Reading
 heldOf fill u = onFill fill u (λ first. first)
 
 -- "Swap: if the word's value and count equal the entry's, the word takes the new value and its count rises by one"
-unfoldable pub swapOf : Reading → Reading → ℕ → Reading
-swapOf u e new =
+unfoldable pub machineSwap : Reading → Reading → ℕ → Reading
+machineSwap u e new =
     pick (eqb (u .value) (e .value))
     (pick (eqb (u .count) (e .count)) (record { value = new; count = suc (u .count) }) u) u
 
@@ -152,50 +152,50 @@ pub record Pace : Type 0 where
 abbrev pub pointOf : Pace → Point
 pointOf b = Point.Run (b .run) (b .stage)
 
-abbrev pub readOf : Act → Shared → Run → Pace
-readOf (fin said) x r = record { shared = x; run = r; stage = Mark said }
-readOf (go rs n) x r = record { shared = x; run = ontoOf r n rs; stage = Read }
-readOf (touch w f) x r = record { shared = x; run = r; stage = Commit (x .word w) }
+abbrev pub machineRead : Act → Shared → Run → Pace
+machineRead (fin said) x r = record { shared = x; run = r; stage = Mark said }
+machineRead (go rs n) x r = record { shared = x; run = machineOnto r n rs; stage = Read }
+machineRead (touch w f) x r = record { shared = x; run = r; stage = Commit (x .word w) }
 
-abbrev pub followOf : Follows → Shared → Run → Reading → Pace
-followOf f x r e =
+abbrev pub machineFollow : Follows → Shared → Run → Reading → Pace
+machineFollow f x r e =
     record {
       shared = x;
-      run = onFollows f (λ rs. ontoOf r 0 rs) (λ new. r);
+      run = onFollows f (λ rs. machineOnto r 0 rs) (λ new. r);
       stage = onFollows f (λ rs. Read) (λ new. Swap e new);
     }
 
-abbrev pub commitOf : Act → Shared → Run → Reading → Pace
-commitOf (fin said) x r u = record { shared = x; run = r; stage = Commit u }
-commitOf (go rs n) x r u = record { shared = x; run = r; stage = Commit u }
-commitOf (touch w f) x r u =
+abbrev pub machineCommit : Act → Shared → Run → Reading → Pace
+machineCommit (fin said) x r u = record { shared = x; run = r; stage = Commit u }
+machineCommit (go rs n) x r u = record { shared = x; run = r; stage = Commit u }
+machineCommit (touch w f) x r u =
     let e = heldOf (x .log (r .place)) u in
-    followOf (f (e .value)) (record { word = x .word; log = put (x .log) (r .place) (Filled e) }) (loggedOf r) e
+    machineFollow (f (e .value)) (record { word = x .word; log = put (x .log) (r .place) (Filled e) }) (machineLogged r) e
 
 unfoldable pub paceOf : List Instr → Shared → Run → Stage → Pace
-paceOf code x r Read = readOf (actAt code (r .next) (r .registers)) x r
-paceOf code x r (Commit u) = commitOf (actAt code (r .next) (r .registers)) x r u
+paceOf code x r Read = machineRead (actAt code (r .next) (r .registers)) x r
+paceOf code x r (Commit u) = machineCommit (actAt code (r .next) (r .registers)) x r u
 paceOf code x r (Swap e new) =
     let w = target (actAt code (r .next) (r .registers)) in
     record {
-      shared = record { word = put (x .word) w (swapOf (x .word w) e new); log = x .log };
-      run = ontoOf r 0 (r .registers);
+      shared = record { word = put (x .word) w (machineSwap (x .word w) e new); log = x .log };
+      run = machineOnto r 0 (r .registers);
       stage = Read;
     }
 paceOf code x r (Mark said) = record { shared = x; run = r; stage = Mark said }
 paceOf code x r (Release said) = record { shared = x; run = r; stage = Release said }
 
 -- one accepted step more
-abbrev pub movedOf : Worker → State → Worker
-movedOf k s = record { state = s; lock = k .lock; own = k .own; steps = suc (k .steps) }
+abbrev pub machineMoved : Worker → State → Worker
+machineMoved k s = record { state = s; lock = k .lock; own = k .own; steps = suc (k .steps) }
 
 -- "2. Grab", "7. Release"
-unfoldable pub grabOf : LockWord → ℕ → ℕ → LockWord
-grabOf l seen own =
+unfoldable pub machineGrab : LockWord → ℕ → ℕ → LockWord
+machineGrab l seen own =
     onHolder (l .holder) (pick (eqb (l .turn) seen) (record { turn = suc seen; holder = By own }) l) (λ s. l)
 
-unfoldable pub releaseOf : LockWord → ℕ → ℕ → LockWord
-releaseOf l won sheet =
+unfoldable pub machineRelease : LockWord → ℕ → ℕ → LockWord
+machineRelease l won sheet =
     onHolder (l .holder) l
     (λ s. pick (eqb s sheet) (pick (eqb (l .turn) won) (record { turn = l .turn; holder = Free }) l) l)
 
@@ -213,7 +213,7 @@ markTo done seen won own =
 
 -- worker i, which is k, goes on in this state
 abbrev pub onTo : Scene → ℕ → Worker → State → Scene
-onTo E i k s = setWorker E i (movedOf k s)
+onTo E i k s = setWorker E i (machineMoved k s)
 
 -- a step of a run
 abbrev pub pacedOf : Scene → ℕ → Worker → Run → Stage → Scene
@@ -225,7 +225,7 @@ pacedOf E i k r at =
 unfoldable pub stepAt : Rules → Scene → ℕ → Worker → Point → Scene
 stepAt K E i k Look = onTo E i k (lookTo (K .last) (E .lock (k .lock)))
 stepAt K E i k (Grab seen) =
-    onTo (setLock E (k .lock) (grabOf (E .lock (k .lock)) seen (k .own))) i k (UnderWay (LookAgain (suc seen)))
+    onTo (setLock E (k .lock) (machineGrab (E .lock (k .lock)) seen (k .own))) i k (UnderWay (LookAgain (suc seen)))
 stepAt K E i k (LookAgain won) = onTo E i k (UnderWay (ReadMark (E .lock (k .lock)) won))
 stepAt K E i k (ReadMark seen won) = onTo E i k (markTo (E .done (k .own)) seen won (k .own))
 stepAt K E i k (Point.Run r Read) = pacedOf E i k r Read
@@ -233,7 +233,7 @@ stepAt K E i k (Point.Run r (Commit u)) = pacedOf E i k r (Commit u)
 stepAt K E i k (Point.Run r (Swap e new)) = pacedOf E i k r (Swap e new)
 stepAt K E i k (Point.Run r (Mark said)) = onTo (setDone E (r .sheet)) i k (UnderWay (Point.Run r (Release said)))
 stepAt K E i k (Point.Run r (Release said)) =
-    onTo (setLock E (k .lock) (releaseOf (E .lock (k .lock)) (r .won) (r .sheet))) i k
+    onTo (setLock E (k .lock) (machineRelease (E .lock (k .lock)) (r .won) (r .sheet))) i k
     (Finished (answerOf r (k .own) said))
 
 -- a sheet that begin may take: "It is in use while a held lock names it, or a worker under way has it as its own or as the one it
@@ -244,8 +244,8 @@ pub record Unused (E : Scene) (s : ℕ) : Type 0 where
   pub helped : (i : ℕ) (p : Point) → E .worker i .state ≡ UnderWay p → helpedOf p ≢ By s
 
 -- "Begin (worker, lock, job record) takes a sheet, copies the job, empties the log, clears the mark."
-abbrev pub begunOf : Scene → ℕ → ℕ → List Instr → ℕ → Scene
-begunOf E i l code s =
+abbrev pub machineBegun : Scene → ℕ → ℕ → List Instr → ℕ → Scene
+machineBegun E i l code s =
     record {
       word = E .word;
       lock = E .lock;

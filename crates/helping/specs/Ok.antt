@@ -27,7 +27,7 @@ use Rattle.steps.specs.declared.Worker.{Worker}
 use Rattle.alone.specs.Alone.{aloneOf}
 use Rattle.alone.specs.Jobs.{Try, givesOf, times}
 use Rattle.helping.specs.Machine.{Rules, Scene, Shared, Act, Tale, actAt, target, stepAt}
-use Rattle.helping.specs.Ideal.{Job, Logs, Touches, farOf, Guarded, Fine, FineJob, Inv, Old, Stands, leftAt}
+use Rattle.helping.specs.Ideal.{Job, Logs, Touches, farOf, Guarded, Fine, FineJob, Inv, Old, RunStands, leftAt}
 
 -- what is known of a sheet: it has not won its lock yet, it holds it, or it has let go of it; the turn under which it won, and
 -- the frontier of its ideal run
@@ -90,7 +90,7 @@ pub record MarkOk (v : View) (own l : ℕ) (seen : LockWord) (won : ℕ) : Type 
 
 abbrev pub RunsAt : View → ℕ → ℕ → Run → Stage → Type 0
 RunsAt v own l r at =
-    RunOk v own l r × Stands (v .st (r .sheet) .job) (v .st (r .sheet) .front) (sharedAt v (r .sheet)) r at
+    RunOk v own l r × RunStands (v .st (r .sheet) .job) (v .st (r .sheet) .front) (sharedAt v (r .sheet)) r at
 
 -- it is to release its lock
 abbrev pub Releasing : Stage → Type 0
@@ -122,8 +122,8 @@ StateOk K v k (UnderWay p) = (k .steps + todoAt (K .most) p ≤ trySteps (K .mos
 StateOk K v k (Finished x) = k .steps ≤ trySteps (K .most)
 
 -- what the jobs give, or gave, is where this job began
-abbrev pub Begins : Rules → Job → List Try → Type 0
-Begins K J earlier = (q : ℕ) → J .words q .value ≡ getD (givesOf earlier (K .values)) q 0
+abbrev pub JobBegins : Rules → Job → List Try → Type 0
+JobBegins K J earlier = (q : ℕ) → J .words q .value ≡ getD (givesOf earlier (K .values)) q 0
 
 -- a free lock: its words hold what its jobs give, and their counts are low
 pub record FreeOk (K : Rules) (word : ℕ → Reading) (T : Tale) (l turn : ℕ) : Type 0 where
@@ -141,7 +141,7 @@ pub record HeldOk (K : Rules) (T : Tale) (σ : Status) (l turn : ℕ) : Type 0 w
   pub earlier : List Try
   pub list : T .won l ≡ last ∷ earlier
   pub code : last .program ≡ σ .job .code
-  pub from : Begins K (σ .job) earlier
+  pub from : JobBegins K (σ .job) earlier
   pub counts : (q : ℕ) → Guarded K l q → σ .job .words q .count + (K .most - 1) ≤ (K .most - 1) * turn
 
 abbrev pub LockOk : Rules → (ℕ → Reading) → Tale → (ℕ → Status) → ℕ → ℕ → Holder → Type 0
@@ -172,17 +172,17 @@ pub record TryOk (K : Rules) (T : Tale) (v : View) (t : Try) (k : Worker) : Type
   pub lock : t .lock ≡ k .lock
   pub program : v .program (k .own) ≡ t .program
   pub absent : v .st (k .own) .kind ≡ unwon → Absent T (t .number)
-  pub listed : v .st (k .own) .kind ≢ unwon → Listed (Begins K (v .st (k .own) .job)) t (T .won (t .lock))
+  pub listed : v .st (k .own) .kind ≢ unwon → Listed (JobBegins K (v .st (k .own) .job)) t (T .won (t .lock))
 
 abbrev pub Named : Rules → Tale → View → Try → Worker → State → Type 0
 Named K T v t k Idle = Unit {0}
 Named K T v t k (UnderWay p) = TryOk K T v t k
 Named K T v t k (Finished x) = (t .lock ≡ k .lock) × AnswerOk K T t x
 
-abbrev pub Busy : State → Type 0
-Busy Idle = ⊥
-Busy (UnderWay p) = Unit {0}
-Busy (Finished x) = Unit {0}
+abbrev pub NotIdle : State → Type 0
+NotIdle Idle = ⊥
+NotIdle (UnderWay p) = Unit {0}
+NotIdle (Finished x) = Unit {0}
 
 pub record Ok (K : Rules) (E : Scene) (T : Tale) (st : ℕ → Status) : Type 0 where
   pub sheet : (s : ℕ) → SheetOk K (viewOf E st) (E .lock) s (st s .kind)
@@ -194,8 +194,8 @@ pub record Ok (K : Rules) (E : Scene) (T : Tale) (st : ℕ → Status) : Type 0 
       (i k : ℕ) (p q : Point) → E .worker i .state ≡ UnderWay p → E .worker k .state ≡ UnderWay q →
       E .worker i .own ≡ E .worker k .own → i ≡ k
   pub ids :
-      (i k : ℕ) → Busy (E .worker i .state) → Busy (E .worker k .state) → T .tries i .number ≡ T .tries k .number → i ≡ k
-  pub begun : (i : ℕ) → Busy (E .worker i .state) → T .tries i .number < T .begins
+      (i k : ℕ) → NotIdle (E .worker i .state) → NotIdle (E .worker k .state) → T .tries i .number ≡ T .tries k .number → i ≡ k
+  pub begun : (i : ℕ) → NotIdle (E .worker i .state) → T .tries i .number < T .begins
   -- a number stands in the lists once at most, and only once its begin was made
   pub unborn : (n l : ℕ) → T .begins ≤ n → times n (T .won l) ≡ 0
   pub once : (n l : ℕ) → times n (T .won l) ≤ 1

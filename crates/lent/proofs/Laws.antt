@@ -43,12 +43,12 @@ module _ (s : List ℕ) (w : ℕ) (h : numbers ≤ length s) where
   drop-nobody b = drop-refused NoWorker (simp (le-leb workers w b))
 
   pub drop-idle : (tag : ℕ) → w < workers → tag ≡ numberAt s w atTag → tag ≡ idleTag → Drops s s w (Refused WorkerIdle)
-  unfolding worker.dropTold
+  unfolding worker.dropByState
   drop-idle tag b e q = drop-refused WorkerIdle (simp (lt-leb workers w b, tag-idle s w b tag e q))
 
   pub drop-done :
       (t : List ℕ) (tag : ℕ) → w < workers → tag ≡ numberAt s w atTag → (tag ≡ idleTag → ⊥) → t ≡ putIdle s w → Drops s t w Accepted
-  unfolding dropOf dropNumbers worker.dropTold
+  unfolding dropOf dropNumbers worker.dropByState
   drop-done t tag b e q n =
       let a : dropTold (unpack s) w ≡ Accepted = simp (lt-leb workers w b) (busy (leb tag releaseTag) refl) in
       dropped t _ (simp a) (simp a n)
@@ -69,19 +69,19 @@ module _ (s : List ℕ) (w : ℕ) (h : numbers ≤ length s) where
 
   pub collect-idle :
       (tag : ℕ) → w < workers → tag ≡ numberAt s w atTag → tag ≡ idleTag → Collects s s w (CollectTold.Refused WorkerIdle)
-  unfolding worker.collectTold
+  unfolding worker.collectByState
   collect-idle tag b e q = collect-refused WorkerIdle (simp (lt-leb workers w b, tag-idle s w b tag e q))
 
   pub collect-way :
       (tag : ℕ) → w < workers → tag ≡ numberAt s w atTag → (tag ≡ idleTag → ⊥) → tag ≤ releaseTag →
       Collects s s w (CollectTold.Refused WorkerUnderWay)
-  unfolding worker.collectTold
+  unfolding worker.collectByState
   collect-way tag b e q u = collect-refused WorkerUnderWay (simp (lt-leb workers w b) (tag-way s w b _ _ _ tag e q u))
 
   pub collect-done :
       (t : List ℕ) (r : CollectTold) (tag : ℕ) →
       w < workers → tag ≡ numberAt s w atTag → releaseTag < tag → r ≡ handedOut s w → t ≡ putIdle s w → Collects s t w r
-  unfolding collectOf collectNumbers worker.collectTold numberAt handedOut
+  unfolding collectOf collectNumbers worker.collectByState numberAt handedOut
   collect-done t r tag b e u y m =
       let q = tag-end s w b tag e u in
       let z = ap (λ (k : Worker). k .steps) (worker-is s w b) in

@@ -21,7 +21,7 @@ use Rattle.lent.specs.Calls.{collectNumbers, dropNumbers}
 
 module _ (s : List ℕ) (w : ℕ) (h : numbers ≤ length s) where
   pub collect-says : Says s (collectNumbers s w) (collectOf (unpack s) w .engine)
-  unfolding collectNumbers collectOf worker.collectTold collectedOf
+  unfolding collectNumbers collectOf worker.collectByState collectedOf
   collect-says = go (leb workers w) refl
     where
       by : w < workers → (q : State) → workerAt (unpack s) w .state ≡ q → Says s (collectNumbers s w) (collectOf (unpack s) w .engine)
@@ -34,7 +34,7 @@ module _ (s : List ℕ) (w : ℕ) (h : numbers ≤ length s) where
       go false e = by (leb-false workers w e) (workerAt (unpack s) w .state) refl
 
   pub drop-says : Says s (dropNumbers s w) (dropOf (unpack s) w .engine)
-  unfolding dropNumbers dropOf worker.dropTold droppedOf
+  unfolding dropNumbers dropOf worker.dropByState droppedOf
   drop-says = go (leb workers w) refl
     where
       by : w < workers → (q : State) → workerAt (unpack s) w .state ≡ q → Says s (dropNumbers s w) (dropOf (unpack s) w .engine)

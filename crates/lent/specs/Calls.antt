@@ -5,7 +5,7 @@ use Rattle.parts.specs.Told.{onTold}
 use Rattle.parts.specs.declared.Told.{Told}
 use Rattle.engine.specs.Calls.{collectTold, dropTold}
 use Rattle.engine.specs.declared.CollectTold.{CollectTold}
-use Rattle.cells.specs.Codes.{answerOf, atSteps, atNew}
+use Rattle.cells.specs.Codes.{answerIn, atSteps, atNew}
 use Rattle.cells.specs.Layout.{unpack, numberAt, putIdle}
 
 -- "A refusal returns .. the state as it came": worker w is idle where this was told and accepted
@@ -14,7 +14,7 @@ idleNumbers s w told = onTold told (putIdle s w) (λ r. s)
 
 -- "Collect (worker) hands out the answer and the number of accepted steps since begin"
 unfoldable pub handedOut : List ℕ → ℕ → CollectTold
-handedOut s w = CollectTold.Answered (answerOf (numberAt s w atNew)) (numberAt s w atSteps)
+handedOut s w = CollectTold.Answered (answerIn (numberAt s w atNew)) (numberAt s w atSteps)
 
 unfoldable pub collectNumbers : List ℕ → ℕ → List ℕ
 collectNumbers s w = idleNumbers s w (collectTold (unpack s) w)

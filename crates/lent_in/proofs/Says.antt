@@ -150,8 +150,8 @@ copied-says s rec sheet h b bytes m =
       z .1 ∙ y .1 ∙ x .1,
     )
 
-began-is : (k : Worker) (l sheet : ℕ) → steps.beginTold k ≡ Accepted → beganOf k l sheet ≡ lookingOf l sheet
-unfolding beganOf steps.beginTold
+began-is : (k : Worker) (l sheet : ℕ) → steps.beginByState k ≡ Accepted → beganOf k l sheet ≡ lookingOf l sheet
+unfolding beganOf steps.beginByState
 began-is k l sheet h = go (k .state) h
   where
     go :

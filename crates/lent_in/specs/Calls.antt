@@ -12,8 +12,7 @@ use Rattle.parts.specs.declared.Refusal.the-variants.{NoWorker, NoLock, LastTur
 use Rattle.parts.specs.declared.Told.{Told}
 use Rattle.records.specs.Job.{jobOf, jobTold}
 use Rattle.records.specs.Setup.{locksField, wordsField, guardsField, valuesField, turnsField, setupTold}
-use Rattle.steps.specs.Worker as steps
-use Rattle.steps.specs.Worker.{beganOf}
+use Rattle.steps.specs.Worker.{beganOf, beginByState}
 use Rattle.engine.specs.State.{lockCount, wordsOf, workerAt, lockAt, freeSheet, baseOf}
 use Rattle.engine.specs.Calls.{beginTold}
 use Rattle.engine.specs.declared.Engine.{Engine}
@@ -73,4 +72,4 @@ turnOrder e l rec =
     []
 
 abbrev pub earlyOrder : Engine → ℕ → ℕ → List ℕ → List Told
-earlyOrder e w l rec = refuseIf (leb workers w) NoWorker ∷ steps.beginTold (workerAt e w) ∷ turnOrder e l rec
+earlyOrder e w l rec = refuseIf (leb workers w) NoWorker ∷ beginByState (workerAt e w) ∷ turnOrder e l rec

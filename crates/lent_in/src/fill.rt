@@ -3,7 +3,7 @@ ghost use mathlib.Core.Path.{_≡_};
 ghost use Prim.Native.Nat.{_+_, _*_, _≤_, _<_};
 ghost use lib.ListN.{length};
 ghost use Rattle.parts.specs.Numbers.{workers, sheets, instructions};
-ghost use Rattle.records.proofs.One.{Sized};
+ghost use Rattle.records.specs.Setup.{Sized};
 ghost use Rattle.engine.specs.Calls.{Begins, begunOf};
 ghost use Rattle.cells.specs.Layout.{numbers, unpack};
 ghost use Rattle.lent_in.specs.Calls.{filledNumbers, filledOf, copiedNumbers, copiedOf, begunNumbers};

@@ -7,7 +7,7 @@ use Rattle.parts.specs.Told.{answerNumber}
 use Rattle.parts.specs.declared.Answer.{Answer}
 use Rattle.parts.specs.declared.LockWord.{LockWord}
 use Rattle.parts.specs.declared.Reading.{Reading}
-use Rattle.cells.specs.Codes.{flagNumber, holderNumber, atTag, atSteps, atSheet, atWon, atNext, atPlace, atRegister, atValue, atCount, atNew, grabTag, lookAgainTag, readMarkTag, readTag, commitTag, swapTag, markTag, releaseTag, finishedTag}
+use Rattle.cells.specs.Codes.{flagNumber, holderNumber, atTag, atSteps, atSheet, atTurn, atNext, atPlace, atRegister, atValue, atCount, atNew, grabTag, lookAgainTag, readMarkTag, readTag, commitTag, swapTag, markTag, releaseTag, finishedTag}
 use Rattle.cells.specs.Layout.{numberAt, runNow, putNumber}
 
 -- one accepted step more, and the tag that it leads to: every move
@@ -17,10 +17,10 @@ steppedTo s w tag = putNumber (putNumber s w atTag tag) w atSteps (next32 (numbe
 -- Before a run: on to Grab, with the turn that Look saw; to Look again, with the turn under which the own sheet won if it did; to Read
 -- mark, with the lock word
 unfoldable pub toGrab : List ℕ → ℕ → ℕ → List ℕ
-toGrab s w turn = putNumber (steppedTo s w grabTag) w atWon turn
+toGrab s w turn = putNumber (steppedTo s w grabTag) w atTurn turn
 
 unfoldable pub toLookAgain : List ℕ → ℕ → ℕ → List ℕ
-toLookAgain s w won = putNumber (steppedTo s w lookAgainTag) w atWon won
+toLookAgain s w won = putNumber (steppedTo s w lookAgainTag) w atTurn won
 
 unfoldable pub toReadMark : List ℕ → ℕ → LockWord → List ℕ
 toReadMark s w l =
@@ -33,7 +33,7 @@ cleared s w =
 
 unfoldable pub started : List ℕ → ℕ → ℕ → ℕ → List ℕ
 started s w sheet won =
-    putNumber (putNumber (putNumber (putNumber (cleared (steppedTo s w readTag) w) w atSheet sheet) w atWon won) w atNext 0) w atPlace 0
+    putNumber (putNumber (putNumber (putNumber (cleared (steppedTo s w readTag) w) w atSheet sheet) w atTurn won) w atNext 0) w atPlace 0
 
 -- on to the next instruction, some passed over; and with a register
 unfoldable pub passed : List ℕ → ℕ → ℕ → List ℕ

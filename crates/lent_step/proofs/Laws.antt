@@ -52,11 +52,11 @@ module _ (s : List ℕ) (w : ℕ) (h : numbers ≤ length s) where
   step-nobody b = step-refused NoWorker (simp (le-leb workers w b))
 
   pub step-idle : (tag : ℕ) → w < workers → tag ≡ numberAt s w atTag → tag ≡ idleTag → Steps s s w (Refused WorkerIdle)
-  unfolding worker.stepTold
+  unfolding worker.stepByState
   step-idle tag b e q = step-refused WorkerIdle (simp (lt-leb workers w b, tag-idle s w b tag e q))
 
   pub step-end : (tag : ℕ) → w < workers → tag ≡ numberAt s w atTag → releaseTag < tag → Steps s s w (Refused NotCollected)
-  unfolding worker.stepTold
+  unfolding worker.stepByState
   step-end tag b e q = step-refused NotCollected (simp (lt-leb workers w b, tag-end s w b tag e q))
 
   -- at the tag k of a worker under way
@@ -64,7 +64,7 @@ module _ (s : List ℕ) (w : ℕ) (h : numbers ≤ length s) where
       (k : ℕ) (t : List ℕ) (r : Told) (tag : ℕ) →
       w < workers → tag ≡ numberAt s w atTag → tag ≡ k → (k ≡ idleTag → ⊥) → k ≤ releaseTag →
       (r ≡ Accepted) × (t ≡ onwardNumbers s w k) → Steps s t w r
-  unfolding stepOf stepNumbers worker.stepTold
+  unfolding stepOf stepNumbers worker.stepByState
   step-at k t r tag b e q n u c =
       let y : k ≡ numberAt s w atTag = sym q ∙ e in
       let a : stepTold (unpack s) w ≡ Accepted = simp (lt-leb workers w b) (tag-way s w b _ _ _ k y n u) in

@@ -24,7 +24,7 @@ use Rattle.steps.specs.declared.State.{State}
 use Rattle.steps.specs.declared.State.the-variants.{UnderWay, Finished}
 use Rattle.steps.specs.declared.Worker.{Worker}
 use Rattle.engine.specs.State.{workerAt, withWorker}
-use Rattle.cells.specs.Codes.{byteOf, flagOf, flagNumber, lockWordOf, holderNumber, answerOf, stateOf, HolderFits, atTag, atLock, atOwn, atSteps, atSheet, atWon, atNext, atPlace, atRegister, atValue, atCount, atNew, grabTag, lookAgainTag, readMarkTag, readTag, markTag, swapTag, releaseTag, finishedTag}
+use Rattle.cells.specs.Codes.{byteOf, flagOf, flagNumber, lockWordOf, holderNumber, answerIn, stateIn, HolderFits, atTag, atLock, atOwn, atSteps, atSheet, atTurn, atNext, atPlace, atRegister, atValue, atCount, atNew, grabTag, lookAgainTag, readMarkTag, readTag, markTag, swapTag, releaseTag, finishedTag}
 use Rattle.cells.specs.Layout.{numbers, workerUsed, unpack, rowOf, numberAt, runNow, putNumber}
 use Rattle.cells.proofs.Back.{byte-back, flag-back, answer-back, lock-back}
 use Rattle.cells.proofs.Row.{Row, worker-is, row-none, row-put}
@@ -43,7 +43,7 @@ by-row :
     getD l atLock 0 ≡ getD (rowOf s w) atLock 0 →
     getD l atOwn 0 ≡ getD (rowOf s w) atOwn 0 →
     getD l atSteps 0 ≡ next32 (getD (rowOf s w) atSteps 0) →
-    stateOf l ≡ q →
+    stateIn l ≡ q →
     Moved s w t q
 by-row s t w l q b r a o n e =
     let k = worker-is s w b in (
@@ -115,28 +115,28 @@ module _ (s : List ℕ) (w : ℕ) (h : numbers ≤ length s) (b : w < workers) w
   to tag = put _ _ atSteps _ (omega arith) (put _ _ atTag tag (omega arith) (row-none s w h b))
 
   pub moved-grab : (turn : ℕ) → Moved s w (toGrab s w turn) (UnderWay (Grab turn))
-  unfolding toGrab stateOf
-  moved-grab turn = by-row s _ w _ _ b (put _ _ atWon turn (omega arith) (to grabTag)) refl refl refl refl
+  unfolding toGrab stateIn
+  moved-grab turn = by-row s _ w _ _ b (put _ _ atTurn turn (omega arith) (to grabTag)) refl refl refl refl
 
   pub moved-again : (won : ℕ) → Moved s w (toLookAgain s w won) (UnderWay (LookAgain won))
-  unfolding toLookAgain stateOf
-  moved-again won = by-row s _ w _ _ b (put _ _ atWon won (omega arith) (to lookAgainTag)) refl refl refl refl
+  unfolding toLookAgain stateIn
+  moved-again won = by-row s _ w _ _ b (put _ _ atTurn won (omega arith) (to lookAgainTag)) refl refl refl refl
 
-  pub moved-seen : (l : LockWord) → HolderFits (l .holder) → Moved s w (toReadMark s w l) (UnderWay (ReadMark l (numberAt s w atWon)))
-  unfolding toReadMark stateOf numberAt
+  pub moved-seen : (l : LockWord) → HolderFits (l .holder) → Moved s w (toReadMark s w l) (UnderWay (ReadMark l (numberAt s w atTurn)))
+  unfolding toReadMark stateIn numberAt
   moved-seen l f =
       by-row s _ w _ _ b (put _ _ atValue (l .turn) (omega arith) (put _ _ atSheet (holderNumber (l .holder)) (omega arith) (to readMarkTag)))
-      refl refl refl (ap (λ (y : LockWord). UnderWay (ReadMark y (numberAt s w atWon))) (lock-back l f))
+      refl refl refl (ap (λ (y : LockWord). UnderWay (ReadMark y (numberAt s w atTurn))) (lock-back l f))
 
   pub moved-start : (sheet won : ℕ) → sheet < 256 → Moved s w (started s w sheet won) (UnderWay (Point.Run (startOf sheet won) Read))
-  unfolding started cleared atRegister stateOf
+  unfolding started cleared atRegister stateIn
   moved-start sheet won f =
       let r₀ = put _ _ 8 0 (omega arith) (to readTag) in
       let r₁ = put _ _ 9 0 (omega arith) r₀ in
       let r₂ = put _ _ 10 0 (omega arith) r₁ in
       let r₃ = put _ _ 11 0 (omega arith) r₂ in
       let r₄ = put _ _ atSheet sheet (omega arith) r₃ in
-      let r₅ = put _ _ atWon won (omega arith) r₄ in
+      let r₅ = put _ _ atTurn won (omega arith) r₄ in
       let r₆ = put _ _ atNext 0 (omega arith) r₅ in
       by-row s _ w _ _ b (put _ _ atPlace 0 (omega arith) r₆) refl refl refl
       (λ i. UnderWay (Point.Run (startOf (byte-back sheet f i) won) Read))
@@ -150,13 +150,13 @@ module _ (s : List ℕ) (w : ℕ) (h : numbers ≤ length s) (b : w < workers) w
   row-passed over = put _ _ atNext _ (omega arith) (to readTag)
 
   pub moved-pass : (over : ℕ) → Moved s w (passed s w over) (UnderWay (Point.Run (ontoOf r over (r .registers)) Read))
-  unfolding runNow stateOf
+  unfolding runNow stateIn
   moved-pass over =
       by-row s _ w _ _ b (row-passed over) refl refl refl
       (λ i. UnderWay (Point.Run (runWith r (byte-again (r .next + 1 + over) i) (r .place) (r .registers)) Read))
 
   pub moved-go : (a x : ℕ) → Moved s w (went s w a x) (UnderWay (Point.Run (ontoOf r 0 (withRegister (r .registers) a x)) Read))
-  unfolding went runNow stateOf
+  unfolding went runNow stateIn
   moved-go a x =
       by-row s _ w _ _ b
       (subst (λ (l : List ℕ). Row s (went s w a x) w l) (register-set _ _ _ _ _ _ _ _ _ _ _ _ _ _ _ a x _ refl)
@@ -165,7 +165,7 @@ module _ (s : List ℕ) (w : ℕ) (h : numbers ≤ length s) (b : w < workers) w
       (λ i. UnderWay (Point.Run (runWith r (byte-again (r .next + 1 + 0) i) (r .place) (withRegister (r .registers) a x)) Read))
 
   pub moved-halt : (said : Bool) → Moved s w (halted s w said) (UnderWay (Point.Run r (Mark said)))
-  unfolding halted runNow stateOf
+  unfolding halted runNow stateIn
   moved-halt said =
       by-row s _ w _ _ b (put _ _ atNew (flagNumber said) (omega arith) (to markTag)) refl refl refl
       (λ i. UnderWay (Point.Run r (Mark (flag-back said i))))
@@ -178,7 +178,7 @@ module _ (s : List ℕ) (w : ℕ) (h : numbers ≤ length s) (b : w < workers) w
   row-held tag x = put _ _ atCount _ (omega arith) (put _ _ atValue _ (omega arith) (to tag))
 
   pub moved-touch : (x : Reading) → Moved s w (touched s w x) (UnderWay (Point.Run r (Commit x)))
-  unfolding runNow stateOf
+  unfolding runNow stateIn
   moved-touch x = by-row s _ w _ _ b (row-held _ x) refl refl refl refl
 
   row-logged :
@@ -188,13 +188,13 @@ module _ (s : List ℕ) (w : ℕ) (h : numbers ≤ length s) (b : w < workers) w
   row-logged = put _ _ atPlace _ (omega arith) (row-passed 0)
 
   pub moved-log : Moved s w (logged s w) (UnderWay (Point.Run (ontoOf (loggedOf r) 0 (r .registers)) Read))
-  unfolding runNow stateOf
+  unfolding runNow stateIn
   moved-log =
       by-row s _ w _ _ b row-logged refl refl refl
       (λ i. UnderWay (Point.Run (runWith r (byte-again (r .next + 1 + 0) i) (byte-again (r .place + 1) i) (r .registers)) Read))
 
   pub moved-load : (a x : ℕ) → Moved s w (loaded s w a x) (UnderWay (Point.Run (ontoOf (loggedOf r) 0 (withRegister (r .registers) a x)) Read))
-  unfolding loaded runNow stateOf
+  unfolding loaded runNow stateIn
   moved-load a x =
       by-row s _ w _ _ b
       (subst (λ (l : List ℕ). Row s (loaded s w a x) w l) (register-set _ _ _ _ _ _ _ _ _ _ _ _ _ _ _ a x _ refl)
@@ -203,17 +203,17 @@ module _ (s : List ℕ) (w : ℕ) (h : numbers ≤ length s) (b : w < workers) w
       (λ i. UnderWay (Point.Run (runWith r (byte-again (r .next + 1 + 0) i) (byte-again (r .place + 1) i) (withRegister (r .registers) a x)) Read))
 
   pub moved-store : (held : Reading) (new : ℕ) → Moved s w (stored s w held new) (UnderWay (Point.Run (loggedOf r) (Swap held new)))
-  unfolding stored runNow stateOf
+  unfolding stored runNow stateIn
   moved-store held new =
       by-row s _ w _ _ b (put _ _ atNew new (omega arith) (put _ _ atPlace _ (omega arith) (row-held swapTag held))) refl refl refl
       (λ i. UnderWay (Point.Run (runWith r (r .next) (byte-again (r .place + 1) i) (r .registers)) (Swap held new)))
 
   pub moved-release : Moved s w (toRelease s w) (UnderWay (Point.Run r (Release (saidNow s w))))
-  unfolding runNow stateOf numberAt
+  unfolding runNow stateIn numberAt
   moved-release = by-row s _ w _ _ b (to releaseTag) refl refl refl refl
 
   pub moved-finish : (x : Answer) → Moved s w (finished s w x) (Finished x)
-  unfolding finished stateOf
+  unfolding finished stateIn
   moved-finish x =
       by-row s _ w _ _ b (put _ _ atNew (answerNumber x) (omega arith) (to finishedTag)) refl refl refl
       (λ i. Finished (answer-back x i))

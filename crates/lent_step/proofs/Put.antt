@@ -37,7 +37,7 @@ module _ (e : Engine) (at : Places) (q : State) where
         worker = set (e .worker) (at .worker) (movedOf (workerAt e (at .worker)) q);
       }
 
-  pub put-lock : (x : LockWord) → putAt e at (toOf (try.withLock (viewAt e at) x) q) ≡ withLock (movedTo e at q) (at .lock) x
+  pub put-lock : (x : LockWord) → putAt e at (toOf (try.viewWithLock (viewAt e at) x) q) ≡ withLock (movedTo e at q) (at .lock) x
   unfolding putAt viewAt
   put-lock x =
       λ t.
@@ -52,7 +52,7 @@ module _ (e : Engine) (at : Places) (q : State) where
         worker = set (e .worker) (at .worker) (movedOf (workerAt e (at .worker)) q);
       }
 
-  pub put-word : (x : Word) → putAt e at (toOf (try.withWord (viewAt e at) x) q) ≡ withWord (movedTo e at q) (at .word) x
+  pub put-word : (x : Word) → putAt e at (toOf (try.viewWithWord (viewAt e at) x) q) ≡ withWord (movedTo e at q) (at .word) x
   unfolding putAt viewAt
   put-word x =
       λ t.
@@ -67,7 +67,7 @@ module _ (e : Engine) (at : Places) (q : State) where
         worker = set (e .worker) (at .worker) (movedOf (workerAt e (at .worker)) q);
       }
 
-  pub put-entry : (x : Entry) → putAt e at (toOf (try.withEntry (viewAt e at) x) q) ≡ withEntry (movedTo e at q) (at .entry) x
+  pub put-entry : (x : Entry) → putAt e at (toOf (try.viewWithEntry (viewAt e at) x) q) ≡ withEntry (movedTo e at q) (at .entry) x
   unfolding putAt viewAt
   put-entry x =
       λ t.
@@ -82,7 +82,7 @@ module _ (e : Engine) (at : Places) (q : State) where
         worker = set (e .worker) (at .worker) (movedOf (workerAt e (at .worker)) q);
       }
 
-  pub put-done : putAt e at (toOf (try.withDone (viewAt e at)) q) ≡
+  pub put-done : putAt e at (toOf (try.viewWithDone (viewAt e at)) q) ≡
       withSheet (movedTo e at q) (at .sheet) (record { length = getD (e .sheet) (at .sheet) sheet0 .length; done = true })
   unfolding putAt viewAt
   put-done =

@@ -47,7 +47,7 @@ use Rattle.engine.specs.State.{sheet0, workerAt, lockAt, wordAt}
 use Rattle.engine.specs.Step.{placesOf, viewAt, putAt, steppedOf}
 use Rattle.engine.specs.declared.Engine.{Engine}
 use Rattle.engine.specs.declared.Sheet.{Sheet}
-use Rattle.cells.specs.Codes.{holderOf, stateOf, HolderFits, atTag, atSheet, atWon, atNew, idleTag, lookTag, grabTag, lookAgainTag, readMarkTag, readTag, commitTag, swapTag, markTag, releaseTag}
+use Rattle.cells.specs.Codes.{holderOf, stateIn, HolderFits, atTag, atSheet, atTurn, atNew, idleTag, lookTag, grabTag, lookAgainTag, readMarkTag, readTag, commitTag, swapTag, markTag, releaseTag}
 use Rattle.cells.specs.Layout.{numbers, lockPart, wordPart, sheetPart, entryPart, unpack, rowOf, numberAt, runNow, readNow, seenNow, putLock, putWord, putSheet, putEntry}
 use Rattle.cells.specs.Pieces.{Part, placeOf, putPiece}
 use Rattle.cells.specs.State.{withLock, withWord, withSheet, withEntry}
@@ -148,8 +148,8 @@ abbrev followState : Follows → Run → Reading → State
 followState q r x =
     onFollows q (λ g. UnderWay (Point.Run (ontoOf r 0 g) Read)) (λ new. UnderWay (Point.Run r (Swap x new)))
 
-look-is : (v : View) → try.lookOf v ≡ toOf v (lookState (v .lock))
-unfolding try.lookOf
+look-is : (v : View) → try.lookStep v ≡ toOf v (lookState (v .lock))
+unfolding try.lookStep
 look-is v = go (v .lock .holder) (eqb (v .lock .turn) lastTurn)
   where
     go :
@@ -167,8 +167,8 @@ to-pick : (v : View) (t : Bool) (a b : State) → pick t (toOf v a) (toOf v b) �
 to-pick v true a b = refl
 to-pick v false a b = refl
 
-mark-is : (v : View) (l : LockWord) (won : ℕ) → try.readMarkOf v l won ≡ toOf v (markState (v .done) l (v .worker .own) won)
-unfolding try.readMarkOf
+mark-is : (v : View) (l : LockWord) (won : ℕ) → try.readMarkStep v l won ≡ toOf v (markState (v .done) l (v .worker .own) won)
+unfolding try.readMarkStep
 mark-is v l won = go (v .done) (l .holder)
   where
     own : State
@@ -186,8 +186,8 @@ mark-is v l won = go (v .done) (l .holder)
     go false Free = refl
     go false (By x) = to-pick v (eqb x (v .worker .own)) own (other x)
 
-read-is : (v : View) (r : Run) → try.readOf v r ≡ toOf v (askedState (asksOf (v .instr) (r .registers)) r (readingOf (v .word)))
-unfolding try.readOf
+read-is : (v : View) (r : Run) → try.readStep v r ≡ toOf v (askedState (asksOf (v .instr) (r .registers)) r (readingOf (v .word)))
+unfolding try.readStep
 read-is v r = go (asksOf (v .instr) (r .registers))
   where
     go :
@@ -199,8 +199,8 @@ read-is v r = go (asksOf (v .instr) (r .registers))
     go (Go g n) = refl
     go (Touch w) = refl
 
-follow-is : (v : View) (r : Run) (x : Reading) → try.followOf v r x ≡ toOf v (followState (followsOf (v .instr) (r .registers) (x .value)) r x)
-unfolding try.followOf
+follow-is : (v : View) (r : Run) (x : Reading) → try.followStep v r x ≡ toOf v (followState (followsOf (v .instr) (r .registers) (x .value)) r x)
+unfolding try.followStep
 follow-is v r x = go (followsOf (v .instr) (r .registers) (x .value))
   where
     go :
@@ -241,11 +241,11 @@ module _ (s : List ℕ) (w : ℕ) (h : numbers ≤ length s) (b : w < workers) w
       go Free f = moved-pick s w (eqb (l .turn) lastTurn) _ _ _ _ (moved-finish s w h b _) (moved-grab s w h b _)
       go (By x) f = moved-start s w h b x (l .turn) f
 
-  moved-own : Moved s w (ranOwn s w) (UnderWay (Point.Run (startOf (ownNow s w) (numberAt s w atWon)) Read))
+  moved-own : Moved s w (ranOwn s w) (UnderWay (Point.Run (startOf (ownNow s w) (numberAt s w atTurn)) Read))
   unfolding ranOwn
   moved-own = moved-start s w h b _ _ (own-byte s w b)
 
-  moved-mark : (done : Bool) (l : LockWord) → HolderFits (l .holder) → Moved s w (markRead s w done l) (markState done l (ownNow s w) (numberAt s w atWon))
+  moved-mark : (done : Bool) (l : LockWord) → HolderFits (l .holder) → Moved s w (markRead s w done l) (markState done l (ownNow s w) (numberAt s w atTurn))
   unfolding markRead ranSeen
   moved-mark done l f = moved-pick s w done _ _ _ _ moved-own (go (l .holder) f)
     where
@@ -254,7 +254,7 @@ module _ (s : List ℕ) (w : ℕ) (h : numbers ≤ length s) (b : w < workers) w
           Moved s w (onHolder k (finished s w NotTaken) (λ x. pick (eqb x (ownNow s w)) (ranOwn s w) (started s w x (l .turn))))
           (onHolder k (Finished NotTaken)
           (λ x.
-          pick (eqb x (ownNow s w)) (UnderWay (Point.Run (startOf (ownNow s w) (numberAt s w atWon)) Read))
+          pick (eqb x (ownNow s w)) (UnderWay (Point.Run (startOf (ownNow s w) (numberAt s w atTurn)) Read))
           (UnderWay (Point.Run (startOf x (l .turn)) Read))))
       go Free f = moved-finish s w h b _
       go (By x) f = moved-pick s w (eqb x (ownNow s w)) _ _ _ _ moved-own (moved-start s w h b _ _ f)
@@ -340,28 +340,28 @@ module _ (s : List ℕ) (w : ℕ) (h : numbers ≤ length s) (b : w < workers) w
       alone s _ w Look (lookState (lockNow s w)) (moved-look s w h b (lockNow s w) (lock-fits s (lockPlace s w) (omega arith)))
       (sym (ap (λ (v : View). putAt e at v) (look-is (viewAt e at)) ∙ put-alone e at (lookState (lockNow s w))))
 
-  grab-says : SaysAt s w (grabNumbers s w) (Grab (numberAt s w atWon))
-  unfolding grabNumbers effectOf try.grabOf placesOf viewAt
+  grab-says : SaysAt s w (grabNumbers s w) (Grab (numberAt s w atTurn))
+  unfolding grabNumbers effectOf try.grabStep placesOf viewAt
   grab-says =
-      let seen = numberAt s w atWon in
+      let seen = numberAt s w atTurn in
       let x = parts.grabOf (lockNow s w) seen (ownNow s w) in
       let q = UnderWay (LookAgain (next32 seen)) in
       with-piece lockPart withLock unpack-lock s _ w (Grab seen) q (lockPlace s w) x h (omega arith)
       (lock-back x (grab-fits (lockNow s w) seen (ownNow s w) (lock-fits s (lockPlace s w) (omega arith)) (own-byte s w b)))
       (moved-again s w h b (next32 seen)) (sym (put-lock e (placesOf e w (Grab seen)) q x))
 
-  look-again-says : SaysAt s w (lookAgainNumbers s w) (LookAgain (numberAt s w atWon))
-  unfolding lookAgainNumbers effectOf try.lookAgainOf placesOf viewAt
+  look-again-says : SaysAt s w (lookAgainNumbers s w) (LookAgain (numberAt s w atTurn))
+  unfolding lookAgainNumbers effectOf try.lookAgainStep placesOf viewAt
   look-again-says =
-      let q = UnderWay (ReadMark (lockNow s w) (numberAt s w atWon)) in
-      alone s _ w (LookAgain (numberAt s w atWon)) q (moved-seen s w h b (lockNow s w) (lock-fits s (lockPlace s w) (omega arith)))
-      (sym (put-alone e (placesOf e w (LookAgain (numberAt s w atWon))) q))
+      let q = UnderWay (ReadMark (lockNow s w) (numberAt s w atTurn)) in
+      alone s _ w (LookAgain (numberAt s w atTurn)) q (moved-seen s w h b (lockNow s w) (lock-fits s (lockPlace s w) (omega arith)))
+      (sym (put-alone e (placesOf e w (LookAgain (numberAt s w atTurn))) q))
 
-  read-mark-says : SaysAt s w (readMarkNumbers s w) (ReadMark (seenNow s w) (numberAt s w atWon))
+  read-mark-says : SaysAt s w (readMarkNumbers s w) (ReadMark (seenNow s w) (numberAt s w atTurn))
   unfolding readMarkNumbers effectOf placesOf spotOf viewAt
   read-mark-says =
       let l = seenNow s w in
-      let won = numberAt s w atWon in
+      let won = numberAt s w atTurn in
       let at = placesOf e w (ReadMark l won) in
       let done = sheetNow s (ownNow s w) .done in
       let q = markState done l (ownNow s w) won in
@@ -384,13 +384,13 @@ module _ (s : List ℕ) (w : ℕ) (h : numbers ≤ length s) (b : w < workers) w
       (followState (followsOf (instrNow s w) (r .registers) (holdsOf (entryNow s w) x .value)) (loggedOf r) (holdsOf (entryNow s w) x)))
       (entryPlace s w) (committedOf (entryNow s w) x) ≡
       steppedOf e w (Point.Run r (Commit x))
-  unfolding effectOf try.commitOf placesOf spotOf instrNow viewAt
+  unfolding effectOf try.commitStep placesOf spotOf instrNow viewAt
   committing x =
       let at = placesOf e w (Point.Run r (Commit x)) in
       let held = holdsOf (entryNow s w) x in
       let y = committedOf (entryNow s w) x in
       sym
-      (ap (λ (v : View). putAt e at v) (follow-is (try.withEntry (viewAt e at) y) (loggedOf r) held) ∙
+      (ap (λ (v : View). putAt e at v) (follow-is (try.viewWithEntry (viewAt e at) y) (loggedOf r) held) ∙
       put-entry e at (followState (followsOf (instrNow s w) (r .registers) (held .value)) (loggedOf r) held) y)
 
   commit-says : SaysAt s w (commitNumbers s w) (Point.Run r (Commit (readNow s w)))
@@ -423,7 +423,7 @@ module _ (s : List ℕ) (w : ℕ) (h : numbers ≤ length s) (b : w < workers) w
           (entry-stays (movedTo e (placesOf e w p) q) (entryPlace s w) ∙ rw (committed-filled (entryNow s w) x y z) at (committing x)))
 
   swap-says : SaysAt s w (swapNumbers s w) (Point.Run r (Swap (readNow s w) (numberAt s w atNew)))
-  unfolding swapNumbers effectOf try.swapOf placesOf spotOf instrNow viewAt
+  unfolding swapNumbers effectOf try.swapStep placesOf spotOf instrNow viewAt
   swap-says =
       let p = Point.Run r (Swap (readNow s w) (numberAt s w atNew)) in
       let j = wordPlace (instrNow s w) in
@@ -435,7 +435,7 @@ module _ (s : List ℕ) (w : ℕ) (h : numbers ≤ length s) (b : w < workers) w
       (moved-pass s w h b 0) (sym (put-word e (placesOf e w p) q y))
 
   mark-says : SaysAt s w (markNumbers s w) (Point.Run r (Mark (saidNow s w)))
-  unfolding markNumbers effectOf try.markOf placesOf spotOf viewAt
+  unfolding markNumbers effectOf try.markStep placesOf spotOf viewAt
   mark-says =
       let p = Point.Run r (Mark (saidNow s w)) in
       let j = r .sheet % sheets in
@@ -445,7 +445,7 @@ module _ (s : List ℕ) (w : ℕ) (h : numbers ≤ length s) (b : w < workers) w
       (moved-release s w h b) (sym (put-done e (placesOf e w p) q))
 
   release-says : SaysAt s w (releaseNumbers s w) (Point.Run r (Release (saidNow s w)))
-  unfolding releaseNumbers effectOf try.releaseOf placesOf spotOf viewAt
+  unfolding releaseNumbers effectOf try.releaseStep placesOf spotOf viewAt
   release-says =
       let p = Point.Run r (Release (saidNow s w)) in
       let y = parts.releaseOf (lockNow s w) (r .won) (r .sheet) in
@@ -475,8 +475,8 @@ module _ (s : List ℕ) (w : ℕ) where
   onward-end : (n : List ℕ) (x : Answer) → Onward n (Finished x)
   onward-end n x p e = let z : _≡_ {A = ℕ} 0 1 = cc in absurd (omega arith)
 
-  onward-says : numbers ≤ length s → w < workers → Onward (onwardNumbers s w (numberAt s w atTag)) (stateOf (rowOf s w))
-  unfolding onwardNumbers stateOf numberAt runNow readNow seenNow
+  onward-says : numbers ≤ length s → w < workers → Onward (onwardNumbers s w (numberAt s w atTag)) (stateIn (rowOf s w))
+  unfolding onwardNumbers stateIn numberAt runNow readNow seenNow
   onward-says h b =
       let tag = numberAt s w atTag in
       onward-either (eqb tag idleTag) _ Idle _ (onward-idle _)
@@ -492,7 +492,7 @@ module _ (s : List ℕ) (w : ℕ) where
 
 -- "Step (worker) does one step": of any worker's number
 pub step-says : (s : List ℕ) (w : ℕ) → numbers ≤ length s → Says s (stepNumbers s w) (stepOf (unpack s) w .engine)
-unfolding stepNumbers stepOf worker.stepTold
+unfolding stepNumbers stepOf worker.stepByState
 step-says s w h = go (leb workers w) refl
   where
     by : w < workers → (q : State) → workerAt (unpack s) w .state ≡ q → Says s (stepNumbers s w) (stepOf (unpack s) w .engine)

@@ -24,7 +24,7 @@ use Rattle.engine.specs.Calls.{stepTold}
 use Rattle.engine.specs.State.{sheet0, workerAt, lockAt, wordAt}
 use Rattle.engine.specs.Step.{instrAt, entryAt}
 use Rattle.engine.specs.declared.Sheet.{Sheet}
-use Rattle.cells.specs.Codes.{flagOf, atTag, atWon, atNew, lookTag, grabTag, lookAgainTag, readMarkTag, readTag, commitTag, swapTag, markTag}
+use Rattle.cells.specs.Codes.{flagOf, atTag, atTurn, atNew, lookTag, grabTag, lookAgainTag, readMarkTag, readTag, commitTag, swapTag, markTag}
 use Rattle.cells.specs.Layout.{unpack, numberAt, runNow, readNow, seenNow, putLock, putWord, putSheet, putEntry}
 use Rattle.lent_moves.specs.Looks.{ownNow, lockPlace, lockNow, saidNow, registersNow, instrNow, wordPlace, wordNow, entryPlace, entryNow, sheetNow, sumNow, restNow, answerNow}
 use Rattle.lent_moves.specs.Moves.{toGrab, toLookAgain, toReadMark, started, passed, went, halted, touched, logged, loaded, stored, toRelease, finished}
@@ -41,7 +41,7 @@ lookNumbers s w = looked s w (lockNow s w)
 -- 2. Grab
 unfoldable pub grabNumbers : List ℕ → ℕ → List ℕ
 grabNumbers s w =
-    putLock (toLookAgain s w (next32 (numberAt s w atWon))) (lockPlace s w) (grabOf (lockNow s w) (numberAt s w atWon) (ownNow s w))
+    putLock (toLookAgain s w (next32 (numberAt s w atTurn))) (lockPlace s w) (grabOf (lockNow s w) (numberAt s w atTurn) (ownNow s w))
 
 -- 3. Look again
 unfoldable pub lookAgainNumbers : List ℕ → ℕ → List ℕ
@@ -49,7 +49,7 @@ lookAgainNumbers s w = toReadMark s w (lockNow s w)
 
 -- 4. Read own done mark, by the mark and the lock word that Look again saw
 unfoldable pub ranOwn : List ℕ → ℕ → List ℕ
-ranOwn s w = started s w (ownNow s w) (numberAt s w atWon)
+ranOwn s w = started s w (ownNow s w) (numberAt s w atTurn)
 
 -- not marked, by the own sheet
 unfoldable pub ranSeen : List ℕ → ℕ → LockWord → ℕ → List ℕ

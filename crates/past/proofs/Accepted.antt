@@ -31,8 +31,8 @@ one-of w rest a =
     (leb-false workers w (row-passes (leb workers w) NoWorker (both .0)), both .1)
 
 -- the state of a worker that may begin, step, collect
-pub idle-of : (k : Worker) → steps.beginTold k ≡ Accepted → k .state ≡ Idle
-unfolding steps.beginTold
+pub idle-of : (k : Worker) → steps.beginByState k ≡ Accepted → k .state ≡ Idle
+unfolding steps.beginByState
 idle-of k a = go (k .state) a
   where
     go : (s : State) → steps.onState s Accepted (λ p. Refused WorkerUnderWay) (λ x. Refused NotCollected) ≡ Accepted → s ≡ Idle
@@ -40,8 +40,8 @@ idle-of k a = go (k .state) a
     go (UnderWay p) e = let z : _≡_ {A = ℕ} 0 1 = cc in absurd (omega arith)
     go (Finished x) e = let z : _≡_ {A = ℕ} 0 1 = cc in absurd (omega arith)
 
-pub point-of : (k : Worker) → steps.stepTold k ≡ Accepted → (p : Point) × (k .state ≡ UnderWay p)
-unfolding steps.stepTold
+pub point-of : (k : Worker) → steps.stepByState k ≡ Accepted → (p : Point) × (k .state ≡ UnderWay p)
+unfolding steps.stepByState
 point-of k a = go (k .state) a
   where
     go : (s : State) → steps.onState s (Refused WorkerIdle) (λ p. Accepted) (λ x. Refused NotCollected) ≡ Accepted →
@@ -50,8 +50,8 @@ point-of k a = go (k .state) a
     go (UnderWay p) e = (p, refl)
     go (Finished x) e = let z : _≡_ {A = ℕ} 0 1 = cc in absurd (omega arith)
 
-pub finished-of : (k : Worker) → steps.collectTold k ≡ Accepted → (a : Answer) × (k .state ≡ Finished a)
-unfolding steps.collectTold
+pub finished-of : (k : Worker) → steps.collectByState k ≡ Accepted → (a : Answer) × (k .state ≡ Finished a)
+unfolding steps.collectByState
 finished-of k a = go (k .state) a
   where
     go : (s : State) → steps.onState s (Refused WorkerIdle) (λ p. Refused WorkerUnderWay) (λ x. Accepted) ≡ Accepted →
@@ -60,12 +60,12 @@ finished-of k a = go (k .state) a
     go (UnderWay p) e = let z : _≡_ {A = ℕ} 0 1 = cc in absurd (omega arith)
     go (Finished x) e = (x, refl)
 
-pub collected-is : (k : Worker) → steps.collectTold k ≡ Accepted → collectedOf k ≡ worker0
+pub collected-is : (k : Worker) → steps.collectByState k ≡ Accepted → collectedOf k ≡ worker0
 unfolding collectedOf
 collected-is k a = ap (λ (s : State). steps.onState s k (λ p. k) (λ x. worker0)) (finished-of k a .1)
 
-pub dropped-is : (k : Worker) → steps.dropTold k ≡ Accepted → droppedOf k ≡ worker0
-unfolding steps.dropTold droppedOf
+pub dropped-is : (k : Worker) → steps.dropByState k ≡ Accepted → droppedOf k ≡ worker0
+unfolding steps.dropByState droppedOf
 dropped-is k a = go (k .state) a
   where
     go : (s : State) → steps.onState s (Refused WorkerIdle) (λ p. Accepted) (λ x. Accepted) ≡ Accepted →

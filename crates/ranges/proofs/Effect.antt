@@ -25,7 +25,7 @@ use Rattle.parts.specs.declared.LockWord.{LockWord}
 use Rattle.parts.specs.declared.Reading.{Reading}
 use Rattle.parts.specs.declared.Registers.{Registers}
 use Rattle.parts.specs.declared.Word.{Word}
-use Rattle.steps.specs.Try.{withLock, withWord, withEntry, withDone, toOf, atOf, startOf, ontoOf, loggedOf, lookOf, grabOf, lookAgainOf, readMarkOf, readOf, followOf, commitOf, swapOf, markOf, answerOf, releaseOf, effectOf}
+use Rattle.steps.specs.Try.{viewWithLock, viewWithWord, viewWithEntry, viewWithDone, toOf, atOf, startOf, ontoOf, loggedOf, lookStep, grabStep, lookAgainStep, readMarkStep, readStep, followStep, commitStep, swapStep, markStep, answerOf, releaseStep, effectOf}
 use Rattle.steps.specs.declared.Point.{Point}
 use Rattle.steps.specs.declared.Point.the-variants.{Look, Grab, LookAgain, ReadMark}
 use Rattle.steps.specs.declared.Run.{Run}
@@ -33,7 +33,7 @@ use Rattle.steps.specs.declared.Stage.the-variants.{Read, Commit, Swap, Mark, R
 use Rattle.steps.specs.declared.State.{State}
 use Rattle.steps.specs.declared.State.the-variants.{UnderWay, Finished}
 use Rattle.steps.specs.declared.View.{View}
-use Rattle.ranges.specs.Good.{Fits, GoodHolder, GoodLock, GoodWord, GoodReading, GoodRegisters, GoodInstr, GoodFill, GoodEntry, GoodRun, GoodPoint, GoodState, GoodWorker}
+use Rattle.ranges.specs.Good.{Fits32, GoodHolder, GoodLock, GoodWord, GoodReading, GoodRegisters, GoodInstr, GoodFill, GoodEntry, GoodRun, GoodPoint, GoodState, GoodWorker}
 use Rattle.ranges.proofs.Frame.{pick-all}
 
 pub record GoodView (locks : ℕ) (v : View) : Type 0 where
@@ -72,23 +72,23 @@ asks-all P (Touch w) h g t q a b c = c w
 
 GoodFollows : Follows → Type 0
 GoodFollows (follows.Done r) = GoodRegisters r
-GoodFollows (follows.Swap x) = Fits x
+GoodFollows (follows.Swap x) = Fits32 x
 
 follows-all :
     {A : Type 0} (P : A → Type 0) (q : Follows) (d : Registers → A) (s : ℕ → A) →
-    GoodFollows q → ((r : Registers) → GoodRegisters r → P (d r)) → ((x : ℕ) → Fits x → P (s x)) → P (onFollows q d s)
+    GoodFollows q → ((r : Registers) → GoodRegisters r → P (d r)) → ((x : ℕ) → Fits32 x → P (s x)) → P (onFollows q d s)
 unfolding GoodFollows
 follows-all P (follows.Done r) d s q a b = a r q
 follows-all P (follows.Swap x) d s q a b = b x q
 
 -- registers
-pub register-fits : (r : Registers) (i : ℕ) → GoodRegisters r → Fits (registerOf r i)
+pub register-fits : (r : Registers) (i : ℕ) → GoodRegisters r → Fits32 (registerOf r i)
 unfolding registerOf
 register-fits r i g =
-    pick-all Fits (eqb i 0) _ _ (g .r0)
-    (pick-all Fits (eqb i 1) _ _ (g .r1) (pick-all Fits (eqb i 2) _ _ (g .r2) (g .r3)))
+    pick-all Fits32 (eqb i 0) _ _ (g .r0)
+    (pick-all Fits32 (eqb i 1) _ _ (g .r1) (pick-all Fits32 (eqb i 2) _ _ (g .r2) (g .r3)))
 
-with-good : (r : Registers) (i x : ℕ) → GoodRegisters r → Fits x → GoodRegisters (withRegister r i x)
+with-good : (r : Registers) (i x : ℕ) → GoodRegisters r → Fits32 x → GoodRegisters (withRegister r i x)
 unfolding withRegister
 with-good r i x g h =
     pick-all GoodRegisters (eqb i 0) _ _ (record { r0 = h; r1 = g .r1; r2 = g .r2; r3 = g .r3 })
@@ -97,7 +97,7 @@ with-good r i x g h =
     (record { r0 = g .r0; r1 = g .r1; r2 = g .r2; r3 = h })))
 
 -- what is cut to 32 bits fits
-cut : (n : ℕ) → Fits (n % 2 ^ 32)
+cut : (n : ℕ) → Fits32 (n % 2 ^ 32)
 cut n = omega arith
 
 asks-good : (i : Instr) (r : Registers) → GoodInstr i → GoodRegisters r → GoodAsks (asksOf i r)
@@ -114,7 +114,7 @@ asks-good i r gi g =
     (pick-all GoodAsks (eqb (i .op) 6) (Go (subOf i r) 0) _ (with-good r (i .a) _ g (cut _))
     (pick-all GoodAsks (eqb (i .op) 7) (Go r (overOf i r)) _ g tt)))))))
 
-follows-good : (i : Instr) (r : Registers) (x : ℕ) → GoodRegisters r → Fits x → GoodFollows (followsOf i r x)
+follows-good : (i : Instr) (r : Registers) (x : ℕ) → GoodRegisters r → Fits32 x → GoodFollows (followsOf i r x)
 unfolding followsOf GoodFollows
 follows-good i r x g h =
     pick-all GoodFollows (eqb (i .op) 2) (follows.Done (withRegister r (i .a) x)) _ (with-good r (i .a) x g h)
@@ -143,7 +143,7 @@ release-good l won s g =
     (record { turn = g .turn; holder = tt }) g) g)
 
 -- words and log entries
-swap-good : (L : ℕ) (w : Word) (r : Reading) (new : ℕ) → GoodWord L w → Fits new → GoodWord L (parts.swapOf w r new)
+swap-good : (L : ℕ) (w : Word) (r : Reading) (new : ℕ) → GoodWord L w → Fits32 new → GoodWord L (parts.swapOf w r new)
 unfolding parts.swapOf
 swap-good L w r new g h =
     pick-all (GoodWord L) (eqb (w .value) (r .value)) _ w
@@ -161,7 +161,7 @@ holds-good e r g h = fill-all GoodReading (e .fill) r (λ first. first) g h (λ 
 -- runs
 start-good : (s won : ℕ) → s < sheets → won ≤ lastTurn → GoodRun (startOf s won)
 start-good s won h k =
-    let zero-fits : Fits 0 = omega arith in
+    let zero-fits : Fits32 0 = omega arith in
     record {
       sheet = h;
       won = k;
@@ -193,11 +193,11 @@ module _ (L : ℕ) (some : 1 ≤ L) where
   at-good : (v : View) (p : Point) → GoodView L v → GoodPoint p → GoodView L (atOf v p)
   at-good v p g h = to-good v (UnderWay p) g (some, h)
 
-  with-lock : (v : View) (l : LockWord) → GoodView L v → GoodLock l → GoodView L (withLock v l)
+  with-lock : (v : View) (l : LockWord) → GoodView L v → GoodLock l → GoodView L (viewWithLock v l)
   with-lock v l g h = record { worker = g .worker; lock = h; word = g .word; entry = g .entry; instr = g .instr }
 
-  look-good : (v : View) → GoodView L v → GoodView L (lookOf v)
-  unfolding lookOf
+  look-good : (v : View) → GoodView L v → GoodView L (lookStep v)
+  unfolding lookStep
   look-good v g =
       holder-all (GoodView L) (v .lock .holder) _ (λ s. atOf v (Point.Run (startOf s (v .lock .turn)) Read)) (g .lock .holder)
       (free (eqb (v .lock .turn) lastTurn) refl)
@@ -213,8 +213,8 @@ module _ (L : ℕ) (some : 1 ≤ L) where
           at-good v (Grab (v .lock .turn)) g (omega arith)
 
   mark-good :
-      (v : View) (seen : LockWord) (won : ℕ) → GoodView L v → GoodLock seen → won ≤ lastTurn → GoodView L (readMarkOf v seen won)
-  unfolding readMarkOf
+      (v : View) (seen : LockWord) (won : ℕ) → GoodView L v → GoodLock seen → won ≤ lastTurn → GoodView L (readMarkStep v seen won)
+  unfolding readMarkStep
   mark-good v seen won g h k =
       pick-all (GoodView L) (v .done) _ _ own
       (holder-all (GoodView L) (seen .holder) _ _ (h .holder) (to-good v (Finished NotTaken) g tt)
@@ -225,8 +225,8 @@ module _ (L : ℕ) (some : 1 ≤ L) where
       own : GoodView L (atOf v (Point.Run (startOf (v .worker .own) won) Read))
       own = at-good v (Point.Run (startOf (v .worker .own) won) Read) g (start-good (v .worker .own) won (g .worker .own) k, tt)
 
-  read-good : (v : View) (r : Run) → GoodView L v → GoodRun r → GoodView L (readOf v r)
-  unfolding readOf
+  read-good : (v : View) (r : Run) → GoodView L v → GoodRun r → GoodView L (readStep v r)
+  unfolding readStep
   read-good v r g h =
       asks-all (GoodView L) (asksOf (v .instr) (r .registers)) _ _ _
       (asks-good (v .instr) (r .registers) (g .instr) (h .registers))
@@ -235,8 +235,8 @@ module _ (L : ℕ) (some : 1 ≤ L) where
       (λ w. at-good v (Point.Run r (Commit (readingOf (v .word)))) g (h, record { value = g .word .value; count = g .word .count }))
 
   follow-good :
-      (v : View) (r : Run) (held : Reading) → GoodView L v → GoodRun r → GoodReading held → GoodView L (followOf v r held)
-  unfolding followOf
+      (v : View) (r : Run) (held : Reading) → GoodView L v → GoodRun r → GoodReading held → GoodView L (followStep v r held)
+  unfolding followStep
   follow-good v r held g h k =
       follows-all (GoodView L) (followsOf (v .instr) (r .registers) (held .value)) _ _
       (follows-good (v .instr) (r .registers) (held .value) (h .registers) (k .value))
@@ -244,16 +244,16 @@ module _ (L : ℕ) (some : 1 ≤ L) where
       (λ new q. at-good v (Point.Run r (Swap held new)) g (h, (k, q)))
 
   pub effect-good : (p : Point) (v : View) → GoodPoint p → GoodView L v → GoodView L (effectOf p v)
-  unfolding effectOf grabOf lookAgainOf commitOf swapOf markOf releaseOf
+  unfolding effectOf grabStep lookAgainStep commitStep swapStep markStep releaseStep
   effect-good Look v h g = look-good v g
   effect-good (Grab seen) v h g =
-      at-good (withLock v (parts.grabOf (v .lock) seen (v .worker .own))) (LookAgain (next32 seen))
+      at-good (viewWithLock v (parts.grabOf (v .lock) seen (v .worker .own))) (LookAgain (next32 seen))
       (with-lock v _ g (grab-good (v .lock) seen (v .worker .own) (g .lock) h (g .worker .own))) (omega arith)
   effect-good (LookAgain won) v h g = at-good v (ReadMark (v .lock) won) g (g .lock, h)
   effect-good (ReadMark seen won) v h g = mark-good v seen won g (h .0) (h .1)
   effect-good (Point.Run r Read) v h g = read-good v r g (h .0)
   effect-good (Point.Run r (Commit read)) v h g =
-      follow-good (withEntry v (committedOf (v .entry) read)) (loggedOf r) (holdsOf (v .entry) read)
+      follow-good (viewWithEntry v (committedOf (v .entry) read)) (loggedOf r) (holdsOf (v .entry) read)
       (record {
         worker = g .worker;
         lock = g .lock;
@@ -263,7 +263,7 @@ module _ (L : ℕ) (some : 1 ≤ L) where
       })
       (logged-good r (h .0)) (holds-good (v .entry) read (g .entry) (h .1))
   effect-good (Point.Run r (Swap entry new)) v h g =
-      at-good (withWord v (parts.swapOf (v .word) entry new)) (Point.Run (ontoOf r 0 (r .registers)) Read)
+      at-good (viewWithWord v (parts.swapOf (v .word) entry new)) (Point.Run (ontoOf r 0 (r .registers)) Read)
       (record {
         worker = g .worker;
         lock = g .lock;
@@ -273,8 +273,8 @@ module _ (L : ℕ) (some : 1 ≤ L) where
       })
       (onto-good r 0 (r .registers) (h .0) (h .0 .registers), tt)
   effect-good (Point.Run r (Mark said)) v h g =
-      at-good (withDone v) (Point.Run r (Release said))
+      at-good (viewWithDone v) (Point.Run r (Release said))
       (record { worker = g .worker; lock = g .lock; word = g .word; entry = g .entry; instr = g .instr }) h
   effect-good (Point.Run r (Release said)) v h g =
-      to-good (withLock v (parts.releaseOf (v .lock) (r .won) (r .sheet))) (Finished (answerOf r (v .worker .own) said))
+      to-good (viewWithLock v (parts.releaseOf (v .lock) (r .won) (r .sheet))) (Finished (answerOf r (v .worker .own) said))
       (with-lock v _ g (release-good (v .lock) (r .won) (r .sheet) (g .lock))) tt

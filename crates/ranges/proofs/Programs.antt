@@ -73,8 +73,8 @@ put-program e at v s =
     (set-same (λ (x : Sheet). x .length) (e .sheet) (at .sheet) _ sheet0 refl s)
 
 -- a worker that begins was idle, and is then to look at its lock with its own sheet
-pub looks : (k : Worker) (l s : ℕ) → steps.beginTold k ≡ Accepted → beganOf k l s ≡ lookingOf l s
-unfolding steps.beginTold beganOf
+pub looks : (k : Worker) (l s : ℕ) → steps.beginByState k ≡ Accepted → beganOf k l s ≡ lookingOf l s
+unfolding steps.beginByState beganOf
 looks k l s h = go (k .state) h
   where
     go :

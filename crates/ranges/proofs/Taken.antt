@@ -14,7 +14,7 @@ use Rattle.records.specs.Job.{instrsOf, jobOf}
 use Rattle.records.specs.Setup.{locksField, wordsField, guardsField, valuesField, turnsField, setupTold}
 use Rattle.records.proofs.One.{setup-sized}
 use Rattle.records.proofs.Takes.{guards-below, turns-below}
-use Rattle.ranges.specs.Good.{Fits, Byte, GoodLock, GoodWord, GoodInstr}
+use Rattle.ranges.specs.Good.{Fits32, Byte, GoodLock, GoodWord, GoodInstr}
 use Rattle.ranges.proofs.Frame.{All, take-all, drop-all, below-or-not}
 
 -- the instructions of bytes, and the numbers of bytes
@@ -33,7 +33,7 @@ instrs-good (o ∷ a ∷ b ∷ c ∷ s) h (suc k) = instrs-good s (λ j. h (suc 
 pub job-good : (rec : List ℕ) → AllBytes rec → All GoodInstr (jobOf rec) instr0
 job-good rec h = instrs-good (drop 4 rec) (drop-all Byte 4 rec 0 (omega arith) h)
 
-u32s-fit : (s : List ℕ) → AllBytes s → All Fits (u32sOf s) 0
+u32s-fit : (s : List ℕ) → AllBytes s → All Fits32 (u32sOf s) 0
 unfolding u32sOf
 u32s-fit [] h k = omega arith
 u32s-fit (a ∷ []) h k = omega arith
@@ -54,7 +54,7 @@ pub lock0-good : GoodLock lock0
 lock0-good = record { turn = omega arith; holder = tt }
 
 words-good :
-    (L : ℕ) (guards values : List ℕ) → All (λ g. g ≤ L - 1) guards 0 → All Fits values 0 →
+    (L : ℕ) (guards values : List ℕ) → All (λ g. g ≤ L - 1) guards 0 → All Fits32 values 0 →
     All (GoodWord L) (wordsFrom guards values) word0
 unfolding wordsFrom
 words-good L [] values g v k = word0-good L

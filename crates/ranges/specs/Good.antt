@@ -30,8 +30,8 @@ use Rattle.engine.specs.declared.Engine.{Engine}
 use Rattle.engine.specs.declared.Sheet.{Sheet}
 
 -- a number of 32 bits
-abbrev pub Fits : ℕ → Type 0
-Fits n = n < 2 ^ 32
+abbrev pub Fits32 : ℕ → Type 0
+Fits32 n = n < 2 ^ 32
 
 -- a byte
 abbrev pub Byte : ℕ → Type 0
@@ -50,19 +50,19 @@ pub record GoodLock (l : LockWord) : Type 0 where
 -- a word of a state with L locks: "a 32-bit value, a 32-bit count of changes .. and one guarding lock". The guard is below L;
 -- of a word that there is not, in the blank state too, it is 0
 pub record GoodWord (locks : ℕ) (w : Word) : Type 0 where
-  pub value : Fits (w .value)
-  pub count : Fits (w .count)
+  pub value : Fits32 (w .value)
+  pub count : Fits32 (w .count)
   pub guard : w .guard ≤ locks - 1
 
 pub record GoodReading (r : Reading) : Type 0 where
-  pub value : Fits (r .value)
-  pub count : Fits (r .count)
+  pub value : Fits32 (r .value)
+  pub count : Fits32 (r .count)
 
 pub record GoodRegisters (r : Registers) : Type 0 where
-  pub r0 : Fits (r .r0)
-  pub r1 : Fits (r .r1)
-  pub r2 : Fits (r .r2)
-  pub r3 : Fits (r .r3)
+  pub r0 : Fits32 (r .r0)
+  pub r1 : Fits32 (r .r1)
+  pub r2 : Fits32 (r .r2)
+  pub r3 : Fits32 (r .r3)
 
 pub record GoodInstr (i : Instr) : Type 0 where
   pub op : Byte (i .op)
@@ -92,7 +92,7 @@ pub record GoodRun (r : Run) : Type 0 where
 abbrev pub GoodStage : Stage → Type 0
 GoodStage Read = Unit {0}
 GoodStage (Commit read) = GoodReading read
-GoodStage (Swap entry new) = GoodReading entry × Fits new
+GoodStage (Swap entry new) = GoodReading entry × Fits32 new
 GoodStage (Mark said) = Unit {0}
 GoodStage (Release said) = Unit {0}
 
@@ -114,7 +114,7 @@ GoodState locks (Finished x) = Unit {0}
 pub record GoodWorker (locks : ℕ) (k : Worker) : Type 0 where
   pub lock : k .lock ≤ locks - 1
   pub own : k .own < sheets
-  pub steps : Fits (k .steps)
+  pub steps : Fits32 (k .steps)
   pub state : GoodState locks (k .state)
 
 -- the length of each array

@@ -17,7 +17,7 @@ use Rattle.parts.specs.declared.Told.the-variants.{Accepted}
 use Rattle.parts.proofs.Order.{first-all, row-passes, neither, not-isnt}
 use Rattle.records.specs.Bytes.{AllBytes, u32sBytes, kindField, lengthTold, header}
 use Rattle.records.specs.Job.{jobKind, jobOf, jobRecord, noJobLength, codeTold, jobTold}
-use Rattle.records.specs.Setup.{setupKind, locksField, wordsField, guardsField, valuesField, turnsField, setupLength, setupRecord, outside, guardsTold, turnsTold, setupTold}
+use Rattle.records.specs.Setup.{setupKind, locksField, wordsField, guardsField, valuesField, turnsField, setupLength, setupRecord, outside, guardsTold, turnsTold, setupTold, Sized}
 use Rattle.records.proofs.Fours.{instrs-length, u32s-length, code-of-instrs, bytes-of-u32s}
 use Rattle.records.proofs.Laws.{length-known}
 
@@ -96,16 +96,6 @@ take-bytes zero s h k = omega arith
 take-bytes (suc n) [] h k = omega arith
 take-bytes (suc n) (x ∷ s) h zero = h zero
 take-bytes (suc n) (x ∷ s) h (suc k) = take-bytes n s (λ j. h (suc j)) k
-
--- what is known of the sizes in an accepted setup record
-pub record Sized (rec : List ℕ) : Type 0 where
-  pub told : lengthTold rec ≡ Accepted
-  pub kind : kindField rec ≡ setupKind
-  pub locks : (1 ≤ locksField rec) × (locksField rec ≤ mostLocks)
-  pub words : (1 ≤ wordsField rec) × (wordsField rec ≤ mostWords)
-  pub size : length rec ≡ setupLength (locksField rec) (wordsField rec)
-  pub guards : guardsTold (guardsField rec) (locksField rec) 6 ≡ Accepted
-  pub turns : turnsTold (turnsField rec) (6 + 5 * wordsField rec) ≡ Accepted
 
 inside : (most n : ℕ) → outside most n ≡ false → (1 ≤ n) × (n ≤ most)
 inside most n h = let e = neither (ltb n 1) (ltb most n) h in (ltb-false n 1 (e .0), ltb-false most n (e .1))

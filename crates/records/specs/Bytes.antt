@@ -1,5 +1,6 @@
 -- "Little-endian. Bytes 0 and 1: length of the whole record. Bytes 2 and 3: kind."
 use Prim.Native.Nat.{ℕ, _+_, _*_, _/_, _%_, _<_}
+use mathlib.Core.Bool.{Bool}
 use mathlib.Core.List.{List, [], _∷_}
 use lib.Dec.{ltb}
 use lib.ListN.{length, getD}
@@ -47,5 +48,8 @@ abbrev pub header : ℕ → ℕ → List ℕ → List ℕ
 header size kind body = size % 256 ∷ size / 256 % 256 ∷ kind ∷ 0 ∷ body
 
 -- "5 (fewer than 4 bytes, or length field other than the slice's length)"
+abbrev pub wrongLength : List ℕ → Bool
+wrongLength rec = ltb (length rec) 4 or lengthField rec isnt length rec
+
 abbrev pub lengthTold : List ℕ → Told
-lengthTold rec = refuseIf (ltb (length rec) 4 or lengthField rec isnt length rec) Length
+lengthTold rec = refuseIf (wrongLength rec) Length

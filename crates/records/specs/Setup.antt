@@ -1,6 +1,7 @@
 -- "Kind 2, setup. Byte 4: locks L. Byte 5: words W. Then W guard bytes (each below L), W values of 4 bytes, L starting turns of
 -- 4 bytes. Length 6 + 5W + 4L."
-use Prim.Native.Nat.{ℕ, _+_, _*_}
+use Prim.Native.Nat.{ℕ, _+_, _*_, _≤_}
+use mathlib.Core.Path.{_≡_}
 use mathlib.Core.Bool.{Bool}
 use mathlib.Core.List.{List, [], _∷_, _++_}
 use lib.Dec.{leb, ltb}
@@ -54,12 +55,12 @@ unfoldable pub turnsTold : List ℕ → ℕ → Told
 turnsTold [] place = Accepted
 turnsTold (t ∷ ts) place = refuseIf (ltb lastTurn t) (Range place) then turnsTold ts (place + 4)
 
--- the last two rows of the order below, of a record with l locks and w words: "12 for the lowest faulty byte"
+-- the end of the order below, of a record with l locks and w words: "12 for the lowest faulty byte"
 abbrev pub bytesTold : List ℕ → ℕ → ℕ → Told
 bytesTold rec l w =
     firstOf (guardsTold (take w (drop 6 rec)) l 6 ∷ turnsTold (u32sOf (drop (6 + 5 * w) rec)) (6 + 5 * w) ∷ [])
 
--- the rows from the fourth on: "12 for L then W, 5 for the total", and those
+-- its rows from the fourth on: "12 for L then W, 5 for the total", and that end
 abbrev pub sizesTold : List ℕ → ℕ → ℕ → Told
 sizesTold rec l w =
     firstOf
@@ -76,9 +77,15 @@ setupTold rec =
     (lengthTold rec ∷
     refuseIf (kindField rec isnt setupKind) Kind ∷
     refuseIf (ltb (length rec) 6) Length ∷
-    refuseIf (outside mostLocks (locksField rec)) (Range 4) ∷
-    refuseIf (outside mostWords (wordsField rec)) (Range 5) ∷
-    refuseIf (length rec isnt setupLength (locksField rec) (wordsField rec)) Length ∷
-    guardsTold (guardsField rec) (locksField rec) 6 ∷
-    turnsTold (turnsField rec) (6 + 5 * wordsField rec) ∷
+    sizesTold rec (locksField rec) (wordsField rec) ∷
     [])
+
+-- what is known of an accepted setup record: the contracts of the functions that read one ask for it
+pub record Sized (rec : List ℕ) : Type 0 where
+  pub told : lengthTold rec ≡ Accepted
+  pub kind : kindField rec ≡ setupKind
+  pub locks : (1 ≤ locksField rec) × (locksField rec ≤ mostLocks)
+  pub words : (1 ≤ wordsField rec) × (wordsField rec ≤ mostWords)
+  pub size : length rec ≡ setupLength (locksField rec) (wordsField rec)
+  pub guards : guardsTold (guardsField rec) (locksField rec) 6 ≡ Accepted
+  pub turns : turnsTold (turnsField rec) (6 + 5 * wordsField rec) ≡ Accepted

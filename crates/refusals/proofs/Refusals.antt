@@ -147,7 +147,7 @@ outcome-refusing e (Refused s) next r h =
 
 -- a worker that isn't idle can't begin
 pub busy : Busy
-unfolding beginOf beginTold worker.beginTold refusalNumber refusalPlace
+unfolding beginOf beginTold worker.beginByState refusalNumber refusalPlace
 busy =
     record {
       underWay = λ e w l rec p h k. outcome-refusing e (beginTold e w l rec) _ WorkerUnderWay (simp (lt-leb workers w h, k));

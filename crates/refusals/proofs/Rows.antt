@@ -102,7 +102,7 @@ drop-state (Finished x) = refl
 
 -- each call's order is that of its rows
 pub begin-rows : (e : Engine) (w l : ℕ) (rec : List ℕ) → beginTold e w l rec ≡ firstOf (beginRows e w l rec)
-unfolding beginTold jobTold worker.beginTold
+unfolding beginTold jobTold worker.beginByState
 begin-rows e w l rec =
     simp (
       begin-state (stateOf e w),
@@ -112,15 +112,15 @@ begin-rows e w l rec =
     )
 
 pub step-rows : (e : Engine) (w : ℕ) → stepTold e w ≡ firstOf (stepRows e w)
-unfolding worker.stepTold
+unfolding worker.stepByState
 step-rows e w = simp (step-state (stateOf e w))
 
 pub collect-rows : (e : Engine) (w : ℕ) → collectTold e w ≡ firstOf (collectRows e w)
-unfolding worker.collectTold
+unfolding worker.collectByState
 collect-rows e w = simp (collect-state (stateOf e w))
 
 pub drop-rows : (e : Engine) (w : ℕ) → dropTold e w ≡ firstOf (dropRows e w)
-unfolding worker.dropTold
+unfolding worker.dropByState
 drop-rows e w = simp (drop-state (stateOf e w))
 
 pub setup-rows : (rec : List ℕ) → setupTold rec ≡ firstOf (setupRows rec)

@@ -19,7 +19,7 @@ use Rattle.parts.specs.declared.Refusal.{Refusal}
 use Rattle.parts.specs.declared.Refusal.the-variants.{NoWorker, NoLock, WorkerUnderWay, NotCollected, Length, Kind, Instruction, Guard, LastTurn, NoSheet, WorkerIdle, Range, Buffer, SheetFree, Held, NoWord}
 use Rattle.parts.specs.declared.Told.{Told}
 use Rattle.parts.specs.declared.Told.the-variants.{Accepted, Refused}
-use Rattle.records.specs.Bytes.{kindField, lengthField}
+use Rattle.records.specs.Bytes.{kindField, wrongLength}
 use Rattle.records.specs.Job.{jobKind, jobOf, badlyFormed, endsOtherwise, straysAt, noJobLength}
 use Rattle.records.specs.Setup.{setupKind, locksField, wordsField, guardsField, turnsField, setupLength, outside}
 use Rattle.steps.specs.Worker.{onState}
@@ -47,10 +47,6 @@ isUnderWay s = onState s false (λ p. true) (λ x. false)
 
 abbrev pub isFinished : State → Bool
 isFinished s = onState s false (λ p. false) (λ x. true)
-
--- "fewer than 4 bytes, or length field other than the slice's length"
-abbrev pub wrongLength : List ℕ → Bool
-wrongLength rec = ltb (length rec) 4 or lengthField rec isnt length rec
 
 -- "the lowest faulty instruction (7 before 8 there)": of the instructions from `place` on. 7: "instruction badly formed, or the
 -- last is no halt"; 8: "a load, store or cam names a word this lock doesn't guard, or no word"

@@ -10,7 +10,7 @@ use lib.ListN.{length, getD, take, drop, set, length-drop, drop-of-length-le}
 use lib.Seq.{length-take-le, drop-cons, take-all, take-suc, take-suc-set}
 use borrow.Author.Tests.{eq-eqb, ne-eqb, lt-ltb, le-ltb, leb-true, leb-false}
 use Rattle.parts.specs.Pick.{pick}
-use Rattle.session.specs.Line.{firstAt, pastOf, afterOf, onNumber, onPair, withDigit, digitsFrom, numberOf, hexDigit, allHex, sameOf, isRecord, byteOf, hexBytes, mostBytes, recordOf, verbOf, lockLine, callOf}
+use Rattle.session.specs.Line.{firstAt, pastOf, afterOf, onNumber, onPair, withDigit, digitsFrom, numberOf, hexDigit, allHex, sameOf, isRecord, hexByte, hexBytes, mostBytes, recordIn, verbOf, lockLine, callOf}
 use Rattle.session.specs.declared.line.Line.{Line}
 use Rattle.session.specs.declared.line.Number.{Number}
 use Rattle.session.specs.declared.line.Pair.{Pair}
@@ -250,7 +250,7 @@ hex-length [] = refl
 hex-length (a ∷ []) = refl
 hex-length (a ∷ b ∷ l) = let q : length (hexBytes l) ≡ length l / 2 = hex-length l in omega arith
 
-hex-at : (l : List ℕ) (j : ℕ) → j < length l / 2 → getD (hexBytes l) j 0 ≡ byteOf (getD l (2 * j) 0) (getD l (2 * j + 1) 0)
+hex-at : (l : List ℕ) (j : ℕ) → j < length l / 2 → getD (hexBytes l) j 0 ≡ hexByte (getD l (2 * j) 0) (getD l (2 * j + 1) 0)
 unfolding hexBytes
 hex-at [] j h = absurd (omega arith)
 hex-at (a ∷ []) j h = absurd (omega arith)
@@ -258,7 +258,7 @@ hex-at (a ∷ b ∷ l) zero h = refl
 hex-at (a ∷ b ∷ l) (suc j) h =
     let q : 2 * suc j ≡ suc (suc (2 * j)) = omega arith in
     let k : suc (suc (2 * j)) + 1 ≡ suc (suc (2 * j + 1)) = omega arith in
-    let g : getD (hexBytes l) j 0 ≡ byteOf (getD l (2 * j) 0) (getD l (2 * j + 1) 0) = hex-at l j (omega arith) in
+    let g : getD (hexBytes l) j 0 ≡ hexByte (getD l (2 * j) 0) (getD l (2 * j + 1) 0) = hex-at l j (omega arith) in
     simp (q, k) g
 
 -- one more byte of a record, and its end
@@ -268,7 +268,7 @@ pub record-turn :
     n ≡ min (length word / 2) mostBytes →
     j < n →
     length bytes ≡ mostBytes →
-    v ≡ byteOf (getD word (2 * j) 0) (getD word (2 * j + 1) 0) →
+    v ≡ hexByte (getD word (2 * j) 0) (getD word (2 * j + 1) 0) →
     take (j + 1) (set bytes j v) ≡ take (j + 1) (hexBytes word)
 record-turn word bytes n j v g e h k q =
     let b : j < length bytes = omega arith in
@@ -286,7 +286,7 @@ pub record-end :
     n ≡ min (length word / 2) mostBytes →
     j ≤ n →
     n ≤ j →
-    take n bytes ≡ recordOf word
+    take n bytes ≡ recordIn word
 record-end word bytes n j g e h k =
     let s : n ≡ j = omega arith in
     ap (λ (i : ℕ). take i bytes) s ∙ g ∙ go (leb (length word / 2) mostBytes) refl

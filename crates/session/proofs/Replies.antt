@@ -14,7 +14,7 @@ use Rattle.parts.specs.declared.Answer.{Answer}
 use Rattle.parts.specs.declared.Refusal.{Refusal}
 use Rattle.parts.specs.declared.Told.the-variants.{Accepted, Refused}
 use Rattle.session.specs.Line.{mostBytes}
-use Rattle.session.specs.Reply.{filledOf, plainOf, stepsFrom, collectReply, writeReply, showReply, parkReply}
+use Rattle.session.specs.Reply.{filledWith, plainOf, stepsFrom, scriptCollect, scriptWrite, scriptShow, scriptPark}
 use Rattle.session.specs.Text.{lentOf}
 use Rattle.session.specs.declared.obey.Reply.{Reply}
 use Rattle.session.specs.declared.text.Tail.the-variants.{Steps, Answer as Tail·Answer}
@@ -85,8 +85,8 @@ pub answered :
     r ≡ plainOf e Accepted (Tail·Answer m s) →
     m ≡ answerNumber x →
     t ≡ CollectTold.Answered x s →
-    r ≡ collectReply t e
-unfolding collectReply
+    r ≡ scriptCollect t e
+unfolding scriptCollect
 answered t e x m s r g h q = simp q (g ∙ ap (λ (k : ℕ). plainOf e Accepted (Tail·Answer k s)) h)
 
 -- a writer was lent the first k of 512 bytes
@@ -95,14 +95,14 @@ lent-length k n l h (e, b) = sym (first-count k l h b) ∙ e
 
 pub shown-by :
     (e : Engine) (s n k : ℕ) (t : WriteTold) (l xs : List ℕ) (r : Reply) →
-    r ≡ writeReply t e n (xs ++ drop k l) →
+    r ≡ scriptWrite t e n (xs ++ drop k l) →
     t ≡ showOf e s (length (take k l)) →
     xs ≡ shownOf e s (take k l) →
-    l ≡ filledOf 165 →
+    l ≡ filledWith 165 →
     length l ≡ mostBytes →
     (k ≡ lentOf n) × (k ≤ mostBytes) →
-    r ≡ showReply e s n
-unfolding showReply
+    r ≡ scriptShow e s n
+unfolding scriptShow
 shown-by e s n k t l xs r g h p q z y =
     let a : length (take k l) ≡ lentOf n = lent-length k n l z y in
     let b : k ≡ lentOf n = y .0 in
@@ -110,14 +110,14 @@ shown-by e s n k t l xs r g h p q z y =
 
 pub parked-by :
     (e : Engine) (n k : ℕ) (t : WriteTold) (l xs : List ℕ) (r : Reply) →
-    r ≡ writeReply t e n (xs ++ drop k l) →
+    r ≡ scriptWrite t e n (xs ++ drop k l) →
     t ≡ parkOf e (length (take k l)) →
     xs ≡ parkedOf e (take k l) →
-    l ≡ filledOf 165 →
+    l ≡ filledWith 165 →
     length l ≡ mostBytes →
     (k ≡ lentOf n) × (k ≤ mostBytes) →
-    r ≡ parkReply e n
-unfolding parkReply
+    r ≡ scriptPark e n
+unfolding scriptPark
 parked-by e n k t l xs r g h p q z y =
     let a : length (take k l) ≡ lentOf n = lent-length k n l z y in
     let b : k ≡ lentOf n = y .0 in

@@ -10,7 +10,7 @@ use Rattle.parts.specs.Lay.{lay}
 use Rattle.session.specs.Line.{lineOf}
 use Rattle.session.specs.Reply.{replyOf}
 use Rattle.session.specs.Text.{Puts, mostReply, badText}
-use Rattle.session.specs.Walk.{textOf, saidOf, tellOf, Tells}
+use Rattle.session.specs.Walk.{textOf, saidOf, tellOf, LineTells}
 use Rattle.session.specs.declared.line.Call.{Call}
 use Rattle.session.specs.declared.line.Line.{Line}
 use Rattle.session.specs.declared.line.Line.the-variants.{Passed, Makes, Bad}
@@ -21,7 +21,7 @@ pub call-told :
     (call : Call) (n m : ℕ) (e : Engine) (text old new : List ℕ) (reply : Reply) →
     reply ≡ replyOf call e text →
     Puts 0 mostReply (textOf n reply) old new m →
-    Tells (Makes call) n e text old new (record { engine = reply .engine; length = m; ended = false })
+    LineTells (Makes call) n e text old new (record { engine = reply .engine; length = m; ended = false })
 unfolding saidOf tellOf
 call-told call n m e text old new reply h p =
     let f : m ≡ 0 + length (textOf n reply) = p .place in
@@ -37,7 +37,7 @@ call-told call n m e text old new reply h p =
 pub passed-told :
     (line : Line) (n : ℕ) (e : Engine) (text old : List ℕ) →
     line ≡ Passed →
-    Tells line n e text old old (record { engine = e; length = 0; ended = false })
+    LineTells line n e text old old (record { engine = e; length = 0; ended = false })
 unfolding saidOf tellOf lay
 passed-told line n e text old h = record { said = simp h; within = omega arith; laid = simp h }
 
@@ -45,7 +45,7 @@ pub bad-told :
     (line : Line) (n m : ℕ) (e : Engine) (text old new : List ℕ) →
     line ≡ Bad →
     Puts 0 mostReply (badText n) old new m →
-    Tells line n e text old new (record { engine = e; length = m; ended = true })
+    LineTells line n e text old new (record { engine = e; length = m; ended = true })
 unfolding saidOf tellOf
 bad-told line n m e text old new h p =
     let f : m ≡ 0 + length (badText n) = p .place in
@@ -59,15 +59,15 @@ bad-told line n m e text old new h p =
 pub line-told :
     (line form : Line) (n : ℕ) (e : Engine) (text old new : List ℕ) (r : Said) →
     line ≡ form →
-    Tells form n e text old new r →
-    Tells line n e text old new r
-line-told line form n e text old new r h t = subst (λ l. Tells l n e text old new r) (sym h) t
+    LineTells form n e text old new r →
+    LineTells line n e text old new r
+line-told line form n e text old new r h t = subst (λ l. LineTells l n e text old new r) (sym h) t
 
 pub turn-told :
     (line : Line) (n : ℕ) (e : Engine) (text part old new : List ℕ) (r : Said) →
     line ≡ lineOf text →
     text ≡ part →
-    Tells line n e text old new r →
-    Tells (lineOf part) n e part old new r
+    LineTells line n e text old new r →
+    LineTells (lineOf part) n e part old new r
 turn-told line n e text part old new r h k t =
-    subst (λ p. Tells (lineOf p) n e p old new r) k (subst (λ l. Tells l n e text old new r) h t)
+    subst (λ p. LineTells (lineOf p) n e p old new r) k (subst (λ l. LineTells l n e text old new r) h t)

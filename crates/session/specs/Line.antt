@@ -111,16 +111,16 @@ isRecord l =
     (pick (ltb (2 * mostBytes) (length l)) false (pick (eqb (length l % 2) 0) (allHex l) false)))
 
 -- the bytes of a word, two digits a byte. `-` has no two digits, and is no byte
-unfoldable pub byteOf : ℕ → ℕ → ℕ
-byteOf high low = hexDigit high % 16 * 16 + hexDigit low % 16
+unfoldable pub hexByte : ℕ → ℕ → ℕ
+hexByte high low = hexDigit high % 16 * 16 + hexDigit low % 16
 
 unfoldable pub hexBytes : List ℕ → List ℕ
 hexBytes [] = []
 hexBytes (a ∷ []) = []
-hexBytes (a ∷ b ∷ l) = byteOf a b ∷ hexBytes l
+hexBytes (a ∷ b ∷ l) = hexByte a b ∷ hexBytes l
 
-abbrev pub recordOf : List ℕ → List ℕ
-recordOf l = take mostBytes (hexBytes l)
+abbrev pub recordIn : List ℕ → List ℕ
+recordIn l = take mostBytes (hexBytes l)
 
 -- the words that name a call, in ASCII: those with one number after them, and all
 unfoldable pub oneVerb : List ℕ → Verb

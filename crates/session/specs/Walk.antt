@@ -37,7 +37,7 @@ abbrev pub lineAt : List ℕ → List ℕ
 lineAt rest = beforeOf newline rest
 
 -- what is said of a line, and the buffer that the text is put into
-pub record Tells (line : Line) (n : ℕ) (e : Engine) (text old new : List ℕ) (r : Said) : Type 0 where
+pub record LineTells (line : Line) (n : ℕ) (e : Engine) (text old new : List ℕ) (r : Said) : Type 0 where
   pub said : r ≡ tellOf line n e text
   pub within : r .length ≤ mostReply
   pub laid : new ≡ lay 0 (saidOf line n e text) old

@@ -3,7 +3,7 @@ ghost use mathlib.Core.Path.{_≡_};
 ghost use Prim.Native.Nat.{_≤_, _/_, min};
 ghost use lib.ListN.{length, take};
 ghost use Rattle.session.specs.Line.{firstAt, pastOf, beforeOf, afterOf, withDigit, digitsFrom, numberOf, pairOf, hexDigit, allHex};
-ghost use Rattle.session.specs.Line.{sameOf, isRecord, byteOf, mostBytes, recordOf, oneVerb, verbOf, setupLine, lockLine, beginLine, stepLine, showLine};
+ghost use Rattle.session.specs.Line.{sameOf, isRecord, hexByte, mostBytes, recordIn, oneVerb, verbOf, setupLine, lockLine, beginLine, stepLine, showLine};
 ghost use Rattle.session.specs.Line.{parkLine, oneNumber, oneLine, callOf, lineOf};
 
 // The first place of x in s; past the end where it is not there.
@@ -237,7 +237,7 @@ fn is_record(word: &[u8]) -> bool
 }
 
 fn byte_of(high: u8, low: u8) -> u8
-    ensures { λ r. ⌜ r ≡ byteOf high low ⌝ }
+    ensures { λ r. ⌜ r ≡ hexByte high low ⌝ }
 {
     hex_digit(high) % 16 * 16 + hex_digit(low) % 16
 }
@@ -260,7 +260,7 @@ fn byte_count(word: &[u8]) -> usize
 }
 
 pub fn record_of(word: &[u8]) -> Record
-    ensures { λ r. ⌜ take (r .length) (r .bytes) ≡ recordOf (now (word .entry)) ⌝ }
+    ensures { λ r. ⌜ take (r .length) (r .bytes) ≡ recordIn (now (word .entry)) ⌝ }
     ensures { λ r. ⌜ (r .length ≤ length (r .bytes)) × (r .length ≡ length (take (r .length) (r .bytes))) ⌝ }
 {
     let n = byte_count(word);

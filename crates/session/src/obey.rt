@@ -2,8 +2,8 @@
 ghost use mathlib.Core.Path.{_≡_};
 ghost use lib.ListN.{length};
 ghost use Rattle.engine.specs.Calls.{setupOf, beginOf, collectOf, dropOf, readWordOf, readLockOf};
-ghost use Rattle.session.specs.Reply.{quietOf, stepsFrom, collectReply, wordReply, lockReply, writeReply, showReply, parkReply};
-ghost use Rattle.session.specs.Reply.{filledOf, plainOf, setupRecord, fourthWord, beginRecord, replyOf};
+ghost use Rattle.session.specs.Reply.{quietOf, stepsFrom, scriptCollect, scriptWord, scriptLock, scriptWrite, scriptShow, scriptPark};
+ghost use Rattle.session.specs.Reply.{filledWith, plainOf, setupRecordIn, fourthWord, beginRecordIn, replyOf};
 use crate::line::Call;
 use crate::line::after;
 use crate::line::record_of;
@@ -28,7 +28,7 @@ pub struct Reply {
 
 // 512 bytes x.
 fn filled(x: u8) -> [u8; 512]
-    ensures { λ r. ⌜ r ≡ filledOf x ⌝ }
+    ensures { λ r. ⌜ r ≡ filledWith x ⌝ }
 {
     [x; 512]
 }
@@ -56,7 +56,7 @@ fn quiet(out: Outcome) -> Reply
 }
 
 fn on_setup(text: &[u8]) -> Reply
-    ensures { λ r. ⌜ r ≡ quietOf (setupOf (setupRecord (now (text .entry)))) ⌝ }
+    ensures { λ r. ⌜ r ≡ quietOf (setupOf (setupRecordIn (now (text .entry)))) ⌝ }
 {
     let rec = record_of(after(text, 32));
     let bytes = rec.bytes;
@@ -73,7 +73,7 @@ fn fourth_word(text: &[u8]) -> &[u8]
 }
 
 fn on_begin(engine: Engine, w: u32, lock: u32, text: &[u8]) -> Reply
-    ensures { λ r. ⌜ r ≡ quietOf (beginOf engine w lock (beginRecord (now (text .entry)))) ⌝ }
+    ensures { λ r. ⌜ r ≡ quietOf (beginOf engine w lock (beginRecordIn (now (text .entry)))) ⌝ }
 {
     let rec = record_of(fourth_word(text));
     let bytes = rec.bytes;
@@ -103,7 +103,7 @@ fn on_step(mut engine: Engine, w: u32, n: u32) -> Reply
 }
 
 fn collected(told: CollectTold, engine: Engine) -> Reply
-    ensures { λ r. ⌜ r ≡ collectReply told engine ⌝ }
+    ensures { λ r. ⌜ r ≡ scriptCollect told engine ⌝ }
 {
     match told {
         CollectTold::Answered(answer, steps) => {
@@ -115,7 +115,7 @@ fn collected(told: CollectTold, engine: Engine) -> Reply
 }
 
 fn on_collect(engine: Engine, w: u32) -> Reply
-    ensures { λ r. ⌜ r ≡ collectReply (collectOf engine w .told) (collectOf engine w .engine) ⌝ }
+    ensures { λ r. ⌜ r ≡ scriptCollect (collectOf engine w .told) (collectOf engine w .engine) ⌝ }
 {
     let out = engine.collect(w);
     let next = out.engine;
@@ -131,7 +131,7 @@ fn on_drop(engine: Engine, w: u32) -> Reply
 }
 
 fn word_read(told: WordTold, engine: Engine) -> Reply
-    ensures { λ r. ⌜ r ≡ wordReply told engine ⌝ }
+    ensures { λ r. ⌜ r ≡ scriptWord told engine ⌝ }
 {
     match told {
         WordTold::Is(w) => plain(
@@ -144,14 +144,14 @@ fn word_read(told: WordTold, engine: Engine) -> Reply
 }
 
 fn on_word(engine: Engine, i: u32) -> Reply
-    ensures { λ r. ⌜ r ≡ wordReply (readWordOf engine i) engine ⌝ }
+    ensures { λ r. ⌜ r ≡ scriptWord (readWordOf engine i) engine ⌝ }
 {
     let told = engine.read_word(i);
     word_read(told, engine)
 }
 
 fn lock_read(told: LockTold, engine: Engine) -> Reply
-    ensures { λ r. ⌜ r ≡ lockReply told engine ⌝ }
+    ensures { λ r. ⌜ r ≡ scriptLock told engine ⌝ }
 {
     match told {
         LockTold::Is(l) => {
@@ -163,7 +163,7 @@ fn lock_read(told: LockTold, engine: Engine) -> Reply
 }
 
 fn on_lock(engine: Engine, l: u32) -> Reply
-    ensures { λ r. ⌜ r ≡ lockReply (readLockOf engine l) engine ⌝ }
+    ensures { λ r. ⌜ r ≡ scriptLock (readLockOf engine l) engine ⌝ }
 {
     let told = engine.read_lock(l);
     lock_read(told, engine)
@@ -171,7 +171,7 @@ fn on_lock(engine: Engine, l: u32) -> Reply
 
 // What a writer told that was lent n bytes, the first of these.
 fn written(told: WriteTold, engine: Engine, n: u32, bytes: [u8; 512]) -> Reply
-    ensures { λ r. ⌜ r ≡ writeReply told engine n bytes ⌝ }
+    ensures { λ r. ⌜ r ≡ scriptWrite told engine n bytes ⌝ }
 {
     match told {
         WriteTold::Wrote(k) => Reply {
@@ -190,7 +190,7 @@ fn written(told: WriteTold, engine: Engine, n: u32, bytes: [u8; 512]) -> Reply
 }
 
 fn on_show(engine: Engine, sheet: u32, n: u32) -> Reply
-    ensures { λ r. ⌜ r ≡ showReply engine sheet n ⌝ }
+    ensures { λ r. ⌜ r ≡ scriptShow engine sheet n ⌝ }
 {
     let k = lent(n);
     let mut bytes = filled(165);
@@ -199,7 +199,7 @@ fn on_show(engine: Engine, sheet: u32, n: u32) -> Reply
 }
 
 fn on_park(engine: Engine, n: u32) -> Reply
-    ensures { λ r. ⌜ r ≡ parkReply engine n ⌝ }
+    ensures { λ r. ⌜ r ≡ scriptPark engine n ⌝ }
 {
     let k = lent(n);
     let mut bytes = filled(165);

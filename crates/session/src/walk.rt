@@ -1,6 +1,6 @@
 // The walk over the script, a line at a time.
 ghost use Rattle.session.specs.Line.{lineOf};
-ghost use Rattle.session.specs.Walk.{Tells, lineAt};
+ghost use Rattle.session.specs.Walk.{LineTells, lineAt};
 use crate::line::Call;
 use crate::line::Line;
 use crate::line::before;
@@ -19,7 +19,7 @@ pub struct Said {
 
 // A line that makes a call.
 fn tell_call(call: Call, number: u32, engine: Engine, text: &[u8], out: &mut [u8; 2048]) -> Said
-    ensures { λ r. ⌜ Tells (Line.Makes call) number engine (now (text .entry)) (now (out .entry)) (now (out .exit)) r ⌝ }
+    ensures { λ r. ⌜ LineTells (Line.Makes call) number engine (now (text .entry)) (now (out .entry)) (now (out .exit)) r ⌝ }
 {
     let reply = obey(call, engine, text);
     let next = reply.engine;
@@ -36,7 +36,7 @@ fn tell_call(call: Call, number: u32, engine: Engine, text: &[u8], out: &mut [u8
 
 // A line of any form, with these bytes.
 fn tell(line: Line, number: u32, engine: Engine, text: &[u8], out: &mut [u8; 2048]) -> Said
-    ensures { λ r. ⌜ Tells line number engine (now (text .entry)) (now (out .entry)) (now (out .exit)) r ⌝ }
+    ensures { λ r. ⌜ LineTells line number engine (now (text .entry)) (now (out .entry)) (now (out .exit)) r ⌝ }
 {
     match line {
         Line::Passed => Said {
@@ -58,7 +58,7 @@ fn tell(line: Line, number: u32, engine: Engine, text: &[u8], out: &mut [u8; 204
 
 // The first line of what is left of the script, whose number this is: the call that it names is made, and its text is put.
 pub fn turn(engine: Engine, number: u32, rest: &[u8], out: &mut [u8; 2048]) -> Said
-    ensures { λ r. ⌜ Tells (lineOf (lineAt (now (rest .entry)))) number engine (lineAt (now (rest .entry))) (now (out .entry)) (now (out .exit)) r ⌝ }
+    ensures { λ r. ⌜ LineTells (lineOf (lineAt (now (rest .entry)))) number engine (lineAt (now (rest .entry))) (now (out .entry)) (now (out .exit)) r ⌝ }
 {
     let text = before(rest, 10);
     let line = line_of(text);

@@ -4,8 +4,7 @@ use mathlib.Core.Bool.{Bool, true}
 use lib.Dec.{eqb}
 use Rattle.parts.specs.Instr.{asksOf, followsOf, onAsks, onFollows}
 use Rattle.parts.specs.Numbers.{lastTurn}
-use Rattle.parts.specs.Parts as parts
-use Rattle.parts.specs.Parts.{next32, registers0, readingOf, committedOf, holdsOf}
+use Rattle.parts.specs.Parts.{next32, registers0, readingOf, swapOf, committedOf, holdsOf, grabOf, releaseOf}
 use Rattle.parts.specs.Pick.{pick, onHolder}
 use Rattle.parts.specs.declared.Answer.{Answer}
 use Rattle.parts.specs.declared.Answer.the-variants.{RanYes, RanNo, NotTaken}
@@ -25,20 +24,20 @@ use Rattle.steps.specs.declared.State.the-variants.{UnderWay, Finished}
 use Rattle.steps.specs.declared.View.{View}
 
 -- the pieces with one of them changed
-abbrev pub withLock : View → LockWord → View
-withLock v l =
+abbrev pub viewWithLock : View → LockWord → View
+viewWithLock v l =
     record { worker = v .worker; lock = l; word = v .word; entry = v .entry; instr = v .instr; done = v .done }
 
-abbrev pub withWord : View → Word → View
-withWord v w =
+abbrev pub viewWithWord : View → Word → View
+viewWithWord v w =
     record { worker = v .worker; lock = v .lock; word = w; entry = v .entry; instr = v .instr; done = v .done }
 
-abbrev pub withEntry : View → Entry → View
-withEntry v e =
+abbrev pub viewWithEntry : View → Entry → View
+viewWithEntry v e =
     record { worker = v .worker; lock = v .lock; word = v .word; entry = e; instr = v .instr; done = v .done }
 
-abbrev pub withDone : View → View
-withDone v =
+abbrev pub viewWithDone : View → View
+viewWithDone v =
     record { worker = v .worker; lock = v .lock; word = v .word; entry = v .entry; instr = v .instr; done = true }
 
 -- the step is made, and the worker is in this state; at this point
@@ -84,25 +83,25 @@ loggedOf r =
 
 -- "1. Look. Remember the lock word. Held: help that sheet, go to 5. Free at turn 67,108,864: finish, not taken. Free otherwise:
 -- go to 2."
-unfoldable pub lookOf : View → View
-lookOf v =
+unfoldable pub lookStep : View → View
+lookStep v =
     onHolder (v .lock .holder)
     (pick (eqb (v .lock .turn) lastTurn) (toOf v (Finished NotTaken)) (atOf v (Grab (v .lock .turn))))
     (λ s. atOf v (Point.Run (startOf s (v .lock .turn)) Read))
 
 -- "2. Grab. If the lock word is still what was remembered, it becomes turn + 1, held by the worker's own sheet. Otherwise
 -- nothing changes."
-unfoldable pub grabOf : View → ℕ → View
-grabOf v seen = atOf (withLock v (parts.grabOf (v .lock) seen (v .worker .own))) (LookAgain (next32 seen))
+unfoldable pub grabStep : View → ℕ → View
+grabStep v seen = atOf (viewWithLock v (grabOf (v .lock) seen (v .worker .own))) (LookAgain (next32 seen))
 
 -- "3. Look again. Remember the lock word. If another sheet holds it, that sheet counts as helped from now."
-unfoldable pub lookAgainOf : View → ℕ → View
-lookAgainOf v won = atOf v (ReadMark (v .lock) won)
+unfoldable pub lookAgainStep : View → ℕ → View
+lookAgainStep v won = atOf v (ReadMark (v .lock) won)
 
 -- "4. Read own done mark. Marked, or step 3 saw the own sheet: run the own sheet, and a sheet seen at 3 no longer counts as
 -- helped. Otherwise, if step 3 saw another sheet: help it. Otherwise finish, not taken."
-unfoldable pub readMarkOf : View → LockWord → ℕ → View
-readMarkOf v seen won =
+unfoldable pub readMarkStep : View → LockWord → ℕ → View
+readMarkStep v seen won =
     pick (v .done) (atOf v (Point.Run (startOf (v .worker .own) won) Read))
     (onHolder (seen .holder) (toOf v (Finished NotTaken))
     (λ s.
@@ -110,32 +109,32 @@ readMarkOf v seen won =
     (atOf v (Point.Run (startOf s (seen .turn)) Read))))
 
 -- "5. Run .. Set, add, sub, skip and halt: one step each. Load: read the word; .. Store: read; .. Cam: read; .."
-unfoldable pub readOf : View → Run → View
-readOf v r =
+unfoldable pub readStep : View → Run → View
+readStep v r =
     onAsks (asksOf (v .instr) (r .registers)) (λ said. atOf v (Point.Run r (Mark said)))
     (λ registers over. atOf v (Point.Run (ontoOf r over registers) Read))
     (λ w. atOf v (Point.Run r (Commit (readingOf (v .word)))))
 
 -- "Load: .. commit. Store: .. commit; swap. Cam: .. commit; swap, the last only if the committed value equals register a." What
 -- follows of the entry's value: the next instruction, or the swap
-unfoldable pub followOf : View → Run → Reading → View
-followOf v r held =
+unfoldable pub followStep : View → Run → Reading → View
+followStep v r held =
     onFollows (followsOf (v .instr) (r .registers) (held .value)) (λ registers. atOf v (Point.Run (ontoOf r 0 registers) Read))
     (λ new. atOf v (Point.Run r (Swap held new)))
 
 -- "Commit: if the log entry at the place is empty it takes the value and count read; either way the worker goes on with what
 -- the entry holds, and the place rises by one."
-unfoldable pub commitOf : View → Run → Reading → View
-commitOf v r read = followOf (withEntry v (committedOf (v .entry) read)) (loggedOf r) (holdsOf (v .entry) read)
+unfoldable pub commitStep : View → Run → Reading → View
+commitStep v r read = followStep (viewWithEntry v (committedOf (v .entry) read)) (loggedOf r) (holdsOf (v .entry) read)
 
 -- "Swap: if the word's value and count equal the entry's, the word takes the new value and its count rises by one"
-unfoldable pub swapOf : View → Run → Reading → ℕ → View
-swapOf v r entry new =
-    atOf (withWord v (parts.swapOf (v .word) entry new)) (Point.Run (ontoOf r 0 (r .registers)) Read)
+unfoldable pub swapStep : View → Run → Reading → ℕ → View
+swapStep v r entry new =
+    atOf (viewWithWord v (swapOf (v .word) entry new)) (Point.Run (ontoOf r 0 (r .registers)) Read)
 
 -- "6. Mark the sheet done."
-unfoldable pub markOf : View → Run → Bool → View
-markOf v r said = atOf (withDone v) (Point.Run r (Release said))
+unfoldable pub markStep : View → Run → Bool → View
+markStep v r said = atOf (viewWithDone v) (Point.Run r (Release said))
 
 -- "own sheet, ran with the halt's answer; helped sheet, not taken"
 unfoldable pub answerOf : Run → ℕ → Bool → Answer
@@ -143,23 +142,23 @@ answerOf r own said = pick (eqb (r .sheet) own) (pick said RanYes RanNo) NotTake
 
 -- "7. Release. If the lock word is held by that sheet at the turn under which it won, it becomes free with the same turn. Finish
 -- in this step"
-unfoldable pub releaseOf : View → Run → Bool → View
-releaseOf v r said =
-    toOf (withLock v (parts.releaseOf (v .lock) (r .won) (r .sheet)))
+unfoldable pub releaseStep : View → Run → Bool → View
+releaseStep v r said =
+    toOf (viewWithLock v (releaseOf (v .lock) (r .won) (r .sheet)))
     (Finished (answerOf r (v .worker .own) said))
 
 -- a step of a run, by its stage
-abbrev pub runEffect : Stage → Run → View → View
-runEffect Read r v = readOf v r
-runEffect (Commit read) r v = commitOf v r read
-runEffect (Swap entry new) r v = swapOf v r entry new
-runEffect (Mark said) r v = markOf v r said
-runEffect (Release said) r v = releaseOf v r said
+abbrev pub runStep : Stage → Run → View → View
+runStep Read r v = readStep v r
+runStep (Commit read) r v = commitStep v r read
+runStep (Swap entry new) r v = swapStep v r entry new
+runStep (Mark said) r v = markStep v r said
+runStep (Release said) r v = releaseStep v r said
 
 -- "Each line but 5 is one step."
 unfoldable pub effectOf : Point → View → View
-effectOf Look v = lookOf v
-effectOf (Grab seen) v = grabOf v seen
-effectOf (LookAgain won) v = lookAgainOf v won
-effectOf (ReadMark seen won) v = readMarkOf v seen won
-effectOf (Point.Run r at) v = runEffect at r v
+effectOf Look v = lookStep v
+effectOf (Grab seen) v = grabStep v seen
+effectOf (LookAgain won) v = lookAgainStep v won
+effectOf (ReadMark seen won) v = readMarkStep v seen won
+effectOf (Point.Run r at) v = runStep at r v

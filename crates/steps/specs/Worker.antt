@@ -39,17 +39,17 @@ droppedOf k = onState (k .state) k (λ p. worker0) (λ x. worker0)
 
 -- The refusals that go by the worker's state. 3: "begin or collect: worker under way"; 4: "begin or step: answer not collected";
 -- 11: "step, collect or drop: worker idle"
-unfoldable pub beginTold : Worker → Told
-beginTold k = onState (k .state) Accepted (λ p. Refused WorkerUnderWay) (λ x. Refused NotCollected)
+unfoldable pub beginByState : Worker → Told
+beginByState k = onState (k .state) Accepted (λ p. Refused WorkerUnderWay) (λ x. Refused NotCollected)
 
-unfoldable pub stepTold : Worker → Told
-stepTold k = onState (k .state) (Refused WorkerIdle) (λ p. Accepted) (λ x. Refused NotCollected)
+unfoldable pub stepByState : Worker → Told
+stepByState k = onState (k .state) (Refused WorkerIdle) (λ p. Accepted) (λ x. Refused NotCollected)
 
-unfoldable pub collectTold : Worker → Told
-collectTold k = onState (k .state) (Refused WorkerIdle) (λ p. Refused WorkerUnderWay) (λ x. Accepted)
+unfoldable pub collectByState : Worker → Told
+collectByState k = onState (k .state) (Refused WorkerIdle) (λ p. Refused WorkerUnderWay) (λ x. Accepted)
 
-unfoldable pub dropTold : Worker → Told
-dropTold k = onState (k .state) (Refused WorkerIdle) (λ p. Accepted) (λ x. Accepted)
+unfoldable pub dropByState : Worker → Told
+dropByState k = onState (k .state) (Refused WorkerIdle) (λ p. Accepted) (λ x. Accepted)
 
 -- one accepted step more, and the state that it leads to
 abbrev pub movedOf : Worker → State → Worker

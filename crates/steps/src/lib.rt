@@ -2,7 +2,7 @@
 // one instruction, one done mark. Each contract gives the result whole, by a definition of specs/.
 ghost use mathlib.Core.Path.{_≡_};
 ghost use Rattle.steps.specs.Places.{runSpot, spotOf, helpedOf};
-ghost use Rattle.steps.specs.Worker.{worker0, beganOf, collectedOf, droppedOf, beginTold, movedOf};
+ghost use Rattle.steps.specs.Worker.{worker0, beganOf, collectedOf, droppedOf, beginByState, movedOf};
 
 pub mod trying;
 
@@ -136,7 +136,7 @@ impl Worker {
     }
 
     pub fn begin_told(self) -> Told
-        ensures { λ r. ⌜ r ≡ beginTold self ⌝ }
+        ensures { λ r. ⌜ r ≡ beginByState self ⌝ }
     {
         let s = self.state;
         match s {

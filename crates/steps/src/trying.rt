@@ -1,6 +1,6 @@
 // One try, step by step: each line of document 01's list on the pieces that it touches.
 ghost use mathlib.Core.Path.{_≡_};
-ghost use Rattle.steps.specs.Try.{startOf, ontoOf, loggedOf, toOf, atOf, lookOf, grabOf, lookAgainOf, readMarkOf, readOf, followOf, commitOf, swapOf, markOf, releaseOf, answerOf, runEffect, effectOf};
+ghost use Rattle.steps.specs.Try.{startOf, ontoOf, loggedOf, toOf, atOf, lookStep, grabStep, lookAgainStep, readMarkStep, readStep, followStep, commitStep, swapStep, markStep, releaseStep, answerOf, runStep, effectOf};
 use crate::Point;
 use crate::Run;
 use crate::Stage;
@@ -87,7 +87,7 @@ impl View {
 
     // 1. Held: help that sheet. Free at the last turn: finish, not taken. Free otherwise: grab.
     pub fn look(self) -> View
-        ensures { λ r. ⌜ r ≡ lookOf self ⌝ }
+        ensures { λ r. ⌜ r ≡ lookStep self ⌝ }
     {
         let l = self.lock;
         let h = l.holder;
@@ -104,7 +104,7 @@ impl View {
 
     // 2. The lock word becomes the own sheet's if it is still what Look saw.
     pub fn grab(mut self, seen: u32) -> View
-        ensures { λ r. ⌜ r ≡ grabOf self seen ⌝ }
+        ensures { λ r. ⌜ r ≡ grabStep self seen ⌝ }
     {
         let l = self.lock;
         let k = self.worker;
@@ -116,7 +116,7 @@ impl View {
 
     // 3. Remember the lock word.
     pub fn look_again(self, won: u32) -> View
-        ensures { λ r. ⌜ r ≡ lookAgainOf self won ⌝ }
+        ensures { λ r. ⌜ r ≡ lookAgainStep self won ⌝ }
     {
         let l = self.lock;
         self.at(Point::ReadMark(l, won))
@@ -124,7 +124,7 @@ impl View {
 
     // 4. Marked, or the own sheet was seen: run it. Another sheet was seen: help it. Else finish, not taken.
     pub fn read_mark(self, seen: LockWord, won: u32) -> View
-        ensures { λ r. ⌜ r ≡ readMarkOf self seen won ⌝ }
+        ensures { λ r. ⌜ r ≡ readMarkStep self seen won ⌝ }
     {
         let k = self.worker;
         let own = k.own;
@@ -145,7 +145,7 @@ impl View {
 
     // 5, the first step of an instruction: set, add, sub, skip and halt are done with it; load, store and cam read the word.
     pub fn read(self, run: Run) -> View
-        ensures { λ r. ⌜ r ≡ readOf self run ⌝ }
+        ensures { λ r. ⌜ r ≡ readStep self run ⌝ }
     {
         let i = self.instr;
         let asks = i.asks(run.registers);
@@ -164,7 +164,7 @@ impl View {
 
     // What follows once the value of an instruction's word is committed: the next instruction, or the swap.
     pub fn follow(self, run: Run, held: Reading) -> View
-        ensures { λ r. ⌜ r ≡ followOf self run held ⌝ }
+        ensures { λ r. ⌜ r ≡ followStep self run held ⌝ }
     {
         let i = self.instr;
         let follows = i.follows(run.registers, held.value);
@@ -176,7 +176,7 @@ impl View {
 
     // 5, commit: the worker goes on with what the entry holds, and the place rises by one.
     pub fn commit(mut self, run: Run, read: Reading) -> View
-        ensures { λ r. ⌜ r ≡ commitOf self run read ⌝ }
+        ensures { λ r. ⌜ r ≡ commitStep self run read ⌝ }
     {
         let e = self.entry;
         let held = e.holds(read);
@@ -187,7 +187,7 @@ impl View {
 
     // 5, swap.
     pub fn swap(mut self, run: Run, entry: Reading, new: u32) -> View
-        ensures { λ r. ⌜ r ≡ swapOf self run entry new ⌝ }
+        ensures { λ r. ⌜ r ≡ swapStep self run entry new ⌝ }
     {
         let w = self.word;
         let next = w.swap(entry, new);
@@ -197,7 +197,7 @@ impl View {
 
     // 6. The sheet is done.
     pub fn mark(mut self, run: Run, said: bool) -> View
-        ensures { λ r. ⌜ r ≡ markOf self run said ⌝ }
+        ensures { λ r. ⌜ r ≡ markStep self run said ⌝ }
     {
         self.done = true;
         self.at(Point::Run(run, Stage::Release(said)))
@@ -205,7 +205,7 @@ impl View {
 
     // 7. The lock word is free again if that sheet still holds it as it won it. Finish: the own sheet ran; a helped one, not taken.
     pub fn release(mut self, run: Run, said: bool) -> View
-        ensures { λ r. ⌜ r ≡ releaseOf self run said ⌝ }
+        ensures { λ r. ⌜ r ≡ releaseStep self run said ⌝ }
     {
         let l = self.lock;
         let next = l.release(run.won, run.sheet);
@@ -216,7 +216,7 @@ impl View {
 
     // One step of a run that is at this stage.
     pub fn run_on(self, run: Run, at: Stage) -> View
-        ensures { λ r. ⌜ r ≡ runEffect at run self ⌝ }
+        ensures { λ r. ⌜ r ≡ runStep at run self ⌝ }
     {
         match at {
             Stage::Read => self.read(run),

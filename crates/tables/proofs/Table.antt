@@ -20,7 +20,7 @@ use Rattle.past.specs.Past.{after, afterAll}
 use Rattle.tables.specs.Table.{setupS, jobA, jobSkipping, fresh, callsC, callsD, callsE, callsG, callsH, Table}
 
 pub table : Table
-unfolding wordsFrom asksOf followsOf wordOf lay parts.grabOf parts.releaseOf parts.swapOf committedOf holdsOf registerOf withRegister wornOf answerNumber refusalNumber refusalPlace u32sOf badlyFormed codeTold instrTold instrsOf jobTold straysAt guardsTold setupTold turnsTold anyOf inUseOf lowestOf helpedOf spotOf try.answerOf try.commitOf try.effectOf try.followOf try.grabOf try.lookAgainOf try.lookOf try.markOf try.readMarkOf try.readOf try.releaseOf try.swapOf worker.beganOf worker.beginTold worker.collectTold worker.collectedOf worker.dropTold worker.droppedOf worker.stepTold beginOf beginTold begunOf collectOf dropOf freshOf readLockOf readWordOf setupOf stepOf blankOf placesOf putAt viewAt after afterAll setupS jobA jobSkipping fresh callsC callsD callsE callsG callsH
+unfolding wordsFrom asksOf followsOf wordOf lay parts.grabOf parts.releaseOf parts.swapOf committedOf holdsOf registerOf withRegister wornOf answerNumber refusalNumber refusalPlace u32sOf badlyFormed codeTold instrTold instrsOf jobTold straysAt guardsTold setupTold turnsTold anyOf inUseOf lowestOf helpedOf spotOf try.answerOf try.commitStep try.effectOf try.followStep try.grabStep try.lookAgainStep try.lookStep try.markStep try.readMarkStep try.readStep try.releaseStep try.swapStep worker.beganOf worker.beginByState worker.collectByState worker.collectedOf worker.dropByState worker.droppedOf worker.stepByState beginOf beginTold begunOf collectOf dropOf freshOf readLockOf readWordOf setupOf stepOf blankOf placesOf putAt viewAt after afterAll setupS jobA jobSkipping fresh callsC callsD callsE callsG callsH
 table =
     record {
       s = refl;

@@ -31,7 +31,7 @@ use Rattle.engine.specs.Calls.{freshOf, setupOf, writeOf, parkTold, parkOf, par
 use Rattle.engine.specs.declared.Engine.{Engine}
 use Rattle.engine.specs.declared.Outcome.{Outcome}
 use Rattle.engine.specs.declared.WriteTold.{WriteTold}
-use Rattle.ranges.specs.Good.{Fits, GoodWord, GoodLock, Good}
+use Rattle.ranges.specs.Good.{Fits32, GoodWord, GoodLock, Good}
 use Rattle.ranges.proofs.Frame.{All, take-all, map-all}
 use Rattle.ranges.proofs.Laid.{lay-first}
 use Rattle.ranges.proofs.Taken.{word0-good, lock0-good}
@@ -145,9 +145,9 @@ module _ (e : Engine) (g : Good e) (some : 1 ≤ e .locks) (held : heldTold (loc
       map-all (λ x. x < length turns) (λ (w : Word). w .guard) (wordsOf e) word0
       (λ k. omega (arith, word-good k .guard, turns-length))
 
-  values-good : All Fits values 0
+  values-good : All Fits32 values 0
   unfolding values
-  values-good = map-all Fits (λ (w : Word). w .value) (wordsOf e) word0 (λ k. word-good k .value)
+  values-good = map-all Fits32 (λ (w : Word). w .value) (wordsOf e) word0 (λ k. word-good k .value)
 
   turns-good : All (λ x. x ≤ lastTurn) turns 0
   unfolding turns

@@ -1,6 +1,6 @@
 -- Too few numbers: 22. Else what the reader told, as a reply.
 use borrow.Author.Needs.{needs}
-use Rattle.door.specs.Door.{noLock, lockOf}
+use Rattle.door.specs.Door.{noLock, lockFields}
 use Rattle.door.proofs.Laws.{if-short-by, if-enough-by}
 use Rattle.door.proofs.chant_read_lock.Statement.{statement}
 use Rattle.door.proofs.chant_read_lock.Tie as tie
@@ -14,4 +14,4 @@ chant-read-lock-spec =
     (λ c. search (if-short-by noLock))
     (λ c κs. search needs)
     (λ c κs. search needs)
-    (λ c. search (if-enough-by lockOf)))
+    (λ c. search (if-enough-by lockFields)))

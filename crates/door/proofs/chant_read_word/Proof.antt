@@ -1,6 +1,6 @@
 -- Too few numbers: 22. Else what the reader told, as a reply.
 use borrow.Author.Needs.{needs}
-use Rattle.door.specs.Door.{noWord, wordOf}
+use Rattle.door.specs.Door.{noWord, wordFields}
 use Rattle.door.proofs.Laws.{if-short-by, if-enough-by}
 use Rattle.door.proofs.chant_read_word.Statement.{statement}
 use Rattle.door.proofs.chant_read_word.Tie as tie
@@ -14,4 +14,4 @@ chant-read-word-spec =
     (λ c. search (if-short-by noWord))
     (λ c κs. search needs)
     (λ c κs. search needs)
-    (λ c. search (if-enough-by wordOf)))
+    (λ c. search (if-enough-by wordFields)))

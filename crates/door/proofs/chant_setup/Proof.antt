@@ -1,6 +1,6 @@
 -- Too few numbers: 22, and all stays. Else what the call on the numbers ensures, and its reply.
 use borrow.Author.Needs.{needs}
-use Rattle.door.specs.Door.{replyOf}
+use Rattle.door.specs.Door.{toldFields}
 use Rattle.door.proofs.Laws.{if-short, if-enough, if-enough-by, no-state}
 use Rattle.door.proofs.chant_setup.Statement.{statement}
 use Rattle.door.proofs.chant_setup.Tie as tie
@@ -14,4 +14,4 @@ chant-setup-spec =
     (λ c κs. search needs)
     (λ c κs. search needs)
     (λ c. search needs)
-    (λ c. search (if-enough-by replyOf, if-enough)))
+    (λ c. search (if-enough-by toldFields, if-enough)))

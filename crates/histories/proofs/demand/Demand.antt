@@ -24,8 +24,8 @@ use Rattle.engine.specs.Calls.{setupOf, collectTold, lastAnswer, collectOf}
 use Rattle.engine.specs.declared.CollectTold.{CollectTold}
 use Rattle.engine.specs.declared.Collected.{Collected}
 use Rattle.engine.specs.declared.Engine.{Engine}
-use Rattle.helping.specs.Machine.{Scene, movedOf}
-use Rattle.helping.specs.Ok.{Busy, LockOk, StateOk, viewOf, Named, AnswerOk, Listed, Says}
+use Rattle.helping.specs.Machine.{Scene, machineMoved}
+use Rattle.helping.specs.Ok.{NotIdle, LockOk, StateOk, viewOf, Named, AnswerOk, Listed, Says}
 use Rattle.past.specs.Past.{Past, steps, stateAfter}
 use Rattle.histories.specs.History.{Sofar, sofar, start, Hold, given, HeldWords, RanOnce, GoesOn, Demand3}
 use Rattle.helping.proofs.Ranges.{ranged}
@@ -52,7 +52,7 @@ tells e w a n h = go (collectTold e w) refl
   where
     go : (t : Told) → collectTold e w ≡ t → Tells (workerAt e w) a n
     go Accepted q =
-        let end = finished-of (workerAt e w) (one-of w (steps.collectTold (workerAt e w)) q .1) in
+        let end = finished-of (workerAt e w) (one-of w (steps.collectByState (workerAt e w)) q .1) in
         let same : CollectTold.Answered (lastAnswer (workerAt e w)) (workerAt e w .steps) ≡ CollectTold.Answered a n =
         sym (ap (λ (o : Collected). o .told) (collect-told e w Accepted q)) ∙ h in
         let last : lastAnswer (workerAt e w) ≡ end .0 =
@@ -159,7 +159,7 @@ module _ (e₀ : Engine) (u₀ : Under (rulesOf e₀) e₀) (x : Sofar) (s : Sta
       let is = step-scene (rulesOf e₀) x s w p h e in
       record {
         told = step-accepted (x .state) w p h e;
-        on = λ idle. subst Busy (sym (ap (λ (k : Worker). k .state) (put-same (sceneOf (x .state) .worker) w (movedOf k (to .to)))) ∙ sym (ap (λ (f : ℕ → Worker). f w .state) (to .worker)) ∙ sym (ap (λ (E : Scene). E .worker w .state) is) ∙ idle) (to .busy);
+        on = λ idle. subst NotIdle (sym (ap (λ (k : Worker). k .state) (put-same (sceneOf (x .state) .worker) w (machineMoved k (to .to)))) ∙ sym (ap (λ (f : ℕ → Worker). f w .state) (to .worker)) ∙ sym (ap (λ (E : Scene). E .worker w .state) is) ∙ idle) (to .busy);
       }
 
   ends :

@@ -23,7 +23,7 @@ use Rattle.engine.specs.Step.{steppedOf}
 use Rattle.engine.specs.Calls.{Begins, beginTold, stepTold, stepOf}
 use Rattle.engine.specs.declared.Engine.{Engine}
 use Rattle.engine.specs.declared.Outcome.{Outcome}
-use Rattle.helping.specs.Machine.{Rules, Scene, begunOf, beginTale, stepAt}
+use Rattle.helping.specs.Machine.{Rules, Scene, machineBegun, beginTale, stepAt}
 use Rattle.helping.specs.Ok.{onward, aloneSteps}
 use Rattle.ranges.specs.Good.{Good}
 use Rattle.past.specs.Past as past
@@ -40,13 +40,13 @@ use Rattle.histories.proofs.simulation.Standing.{Standing, state-then, 
 use Rattle.histories.proofs.map.Steps.{step-is, begin-is}
 
 -- a worker that there is: its step is told by its state
-told-by : (e : Engine) (w : ℕ) → w < workers → stepTold e w ≡ steps.stepTold (workerAt e w)
+told-by : (e : Engine) (w : ℕ) → w < workers → stepTold e w ≡ steps.stepByState (workerAt e w)
 told-by e w h = rw (lt-leb workers w h)
 
 told-in :
     (e : Engine) (w : ℕ) → w < workers → (t : State) → workerAt e w .state ≡ t →
     stepTold e w ≡ steps.onState t (Refused WorkerIdle) (λ p. Accepted) (λ y. Refused NotCollected)
-unfolding steps.stepTold
+unfolding steps.stepByState
 told-in e w h t q =
     told-by e w h ∙ ap (λ (t : State). steps.onState t (Refused WorkerIdle) (λ p. Accepted) (λ y. Refused NotCollected)) q
 
@@ -95,7 +95,7 @@ may-begin :
     (x : Sofar) → Good (x .state) → (w l s : ℕ) (rec : List ℕ) → l < lockCount (x .state) →
     lockAt (x .state) l .holder ≡ By s → w < workers → workerAt (x .state) w .state ≡ Idle →
     jobTold rec l (guardsOf (wordsOf (x .state))) ≡ Accepted → Begins (x .state) w l rec
-unfolding steps.beginTold wornOf
+unfolding steps.beginByState wornOf
 may-begin x g w l s rec b h k i j =
     record {
       worker = k;
@@ -116,7 +116,7 @@ told-accepted e w l rec b =
 helped-is :
     (K : Rules) (x : Sofar) → Standing K x → (w l : ℕ) (rec : List ℕ) → AllBytes rec → Begins (x .state) w l rec → (n : ℕ) →
     sceneOf (follow x (Begin w l rec ∷ past.steps n w) .state) ≡
-    aloneSteps K w n (begunOf (sceneOf (x .state)) w l (jobOf rec) (freeSheet (x .state)))
+    aloneSteps K w n (machineBegun (sceneOf (x .state)) w l (jobOf rec) (freeSheet (x .state)))
 unfolding follow after AllRecords
 helped-is K x s w l rec b t n =
     let told = begin-told (x .state) w l rec Accepted (told-accepted (x .state) w l rec t) in
@@ -125,7 +125,7 @@ helped-is K x s w l rec b t n =
     (ap sceneOf (state-then x (Begin w l rec)) ∙ ap (λ (o : Outcome). sceneOf (o .engine)) told ∙ begin-is (x .state) (s .good) w l rec t)
 
 -- a worker that has just begun is to look at its lock
-looking : (E : Scene) (w l : ℕ) (code : List Instr) (s : ℕ) → begunOf E w l code s .worker w ≡ steps.lookingOf l s
+looking : (E : Scene) (w l : ℕ) (code : List Instr) (s : ℕ) → machineBegun E w l code s .worker w ≡ steps.lookingOf l s
 looking E w l code s = rw (eq-eqb w w refl)
 
 pub completed :
@@ -136,7 +136,7 @@ completed e₀ u₀ x s w l h rec below held seat idle bytes job =
     let K = rulesOf e₀ in
     let b = may-begin x (s .good) w l h rec below held seat idle job in
     let E = sceneOf (x .state) in
-    let D = begunOf E w l (jobOf rec) (freeSheet (x .state)) in
+    let D = machineBegun E w l (jobOf rec) (freeSheet (x .state)) in
     let T = beginTale (taleOf x) w l (jobOf rec) in
     let next =
     begin-ok K E (taleOf x) (s .next .st) (s .next .ok) w l (freeSheet (x .state)) (jobOf rec)

@@ -18,7 +18,7 @@ use Rattle.steps.specs.declared.Stage.the-variants.{Read, Commit, Swap, Mark, R
 use Rattle.steps.specs.declared.Worker.{Worker}
 use Rattle.engine.specs.State.{lockAt}
 use Rattle.engine.specs.Calls.{setupOf}
-use Rattle.helping.specs.Machine.{Rules, Scene, Tale, put, grabOf, releaseOf, stepAt, winTale, grabTale, stepTale}
+use Rattle.helping.specs.Machine.{Rules, Scene, Tale, put, machineGrab, machineRelease, stepAt, winTale, grabTale, stepTale}
 use Rattle.past.specs.Past.{Past}
 use Rattle.histories.specs.History.{start, sofar}
 use Rattle.helping.proofs.Put.{put-case}
@@ -42,8 +42,8 @@ turned-put from f won k x ts h q l = go (eqb l k) refl
 
 turned-grab :
     (from : ℕ → ℕ) (E : Scene) (T : Tale) (i k seen own : ℕ) → Turned from E T → (l : ℕ) →
-    put (E .lock) k (grabOf (E .lock k) seen own) l .turn ≡ from l + length (grabTale T i k (E .lock k) seen .won l)
-unfolding grabOf grabTale
+    put (E .lock) k (machineGrab (E .lock k) seen own) l .turn ≡ from l + length (grabTale T i k (E .lock k) seen .won l)
+unfolding machineGrab grabTale
 turned-grab from E T i k seen own h l = go (E .lock k .holder) (eqb (E .lock k .turn) seen) refl
   where
     x : LockWord
@@ -62,8 +62,8 @@ turned-grab from E T i k seen own h l = go (E .lock k .holder) (eqb (E .lock k .
     go Free false e = same l
     go (By s) b e = same l
 
-release-turn : (l : LockWord) (won s : ℕ) → releaseOf l won s .turn ≡ l .turn
-unfolding releaseOf
+release-turn : (l : LockWord) (won s : ℕ) → machineRelease l won s .turn ≡ l .turn
+unfolding machineRelease
 release-turn l won s = go (l .holder)
   where
     pass : (b c : Bool) → pick b (pick c (record { turn = l .turn; holder = Free }) l) l .turn ≡ l .turn
@@ -91,7 +91,7 @@ turned-step K from E T i k (Point.Run r (Swap e new)) h = h
 turned-step K from E T i k (Point.Run r (Mark said)) h = h
 turned-step K from E T i k (Point.Run r (Release said)) h =
     λ l.
-    put-case (E .lock) (k .lock) (releaseOf (E .lock (k .lock)) (r .won) (r .sheet))
+    put-case (E .lock) (k .lock) (machineRelease (E .lock (k .lock)) (r .won) (r .sheet))
     (λ (y : LockWord). y .turn ≡ from l + length (T .won l)) l
     (λ e. release-turn (E .lock (k .lock)) (r .won) (r .sheet) ∙ ap (λ (m : ℕ). E .lock m .turn) (sym e) ∙ h l) (λ n. h l)
 

@@ -28,7 +28,7 @@ use Rattle.parts.specs.declared.Registers.{Registers}
 use Rattle.parts.specs.declared.Word.{Word}
 use Rattle.parts.proofs.Touch.{touch-word}
 use Rattle.steps.specs.Try as steps
-use Rattle.steps.specs.Try.{withEntry, toOf, atOf, startOf, lookOf, readMarkOf}
+use Rattle.steps.specs.Try.{viewWithEntry, toOf, atOf, startOf, lookStep, readMarkStep}
 use Rattle.steps.specs.Worker as workers
 use Rattle.steps.specs.declared.Point.{Point}
 use Rattle.steps.specs.declared.Point.the-variants.{Grab}
@@ -40,27 +40,27 @@ use Rattle.steps.specs.declared.View.{View}
 use Rattle.steps.specs.declared.Worker.{Worker}
 use Rattle.helping.specs.Ideal.{Logs, Touches, farOf}
 use Rattle.helping.specs.Machine as machine
-use Rattle.helping.specs.Machine.{Shared, Act, fin, go, touch, actOf, target, put, heldOf, movedOf, ontoOf, loggedOf, pointOf, lookTo, markTo}
+use Rattle.helping.specs.Machine.{Shared, Act, fin, go, touch, actOf, target, put, heldOf, machineMoved, machineOnto, machineLogged, pointOf, lookTo, markTo}
 
 -- one step more, the next instruction, the next entry
-pub moved-is : (k : Worker) (s : State) → k .steps + 1 < 2 ^ 32 → workers.movedOf k s ≡ movedOf k s
+pub moved-is : (k : Worker) (s : State) → k .steps + 1 < 2 ^ 32 → workers.movedOf k s ≡ machineMoved k s
 moved-is k s h =
     let n : next32 (k .steps) ≡ suc (k .steps) = omega arith in
     λ i. record { state = s; lock = k .lock; own = k .own; steps = n i }
 
-pub onto-is : (r : Run) (over : ℕ) (rs : Registers) → r .next + suc over < 2 ^ 8 → steps.ontoOf r over rs ≡ ontoOf r over rs
+pub onto-is : (r : Run) (over : ℕ) (rs : Registers) → r .next + suc over < 2 ^ 8 → steps.ontoOf r over rs ≡ machineOnto r over rs
 onto-is r over rs h =
     let n : (r .next + 1 + over) % 2 ^ 8 ≡ suc (r .next + over) = omega arith in
     λ i. record { sheet = r .sheet; won = r .won; next = n i; place = r .place; registers = rs }
 
-logged-is : (r : Run) → r .place + 1 < 2 ^ 8 → steps.loggedOf r ≡ loggedOf r
+logged-is : (r : Run) → r .place + 1 < 2 ^ 8 → steps.loggedOf r ≡ machineLogged r
 logged-is r h =
     let n : (r .place + 1) % 2 ^ 8 ≡ suc (r .place) = omega arith in
     λ i. record { sheet = r .sheet; won = r .won; next = r .next; place = n i; registers = r .registers }
 
 -- "1. Look", "2. Grab", "4. Read own done mark"
-pub look-is : (v : View) → lookOf v ≡ toOf v (lookTo lastTurn (v .lock))
-unfolding lookOf lookTo
+pub look-is : (v : View) → lookStep v ≡ toOf v (lookTo lastTurn (v .lock))
+unfolding lookStep lookTo
 look-is v = by (v .lock .holder) (eqb (v .lock .turn) lastTurn)
   where
     by :
@@ -74,8 +74,8 @@ look-is v = by (v .lock .holder) (eqb (v .lock .turn) lastTurn)
     by Free false = refl
     by (By s) b = refl
 
-pub grab-is : (l : LockWord) (seen own : ℕ) → seen + 1 < 2 ^ 32 → parts.grabOf l seen own ≡ machine.grabOf l seen own
-unfolding parts.grabOf machine.grabOf
+pub grab-is : (l : LockWord) (seen own : ℕ) → seen + 1 < 2 ^ 32 → parts.grabOf l seen own ≡ machine.machineGrab l seen own
+unfolding parts.grabOf machine.machineGrab
 grab-is l seen own h = by (l .holder) (eqb (l .turn) seen) refl
   where
     by :
@@ -90,8 +90,8 @@ grab-is l seen own h = by (l .holder) (eqb (l .turn) seen) refl
     by (By s) b e = refl
 
 pub mark-is :
-    (v : View) (seen : LockWord) (won : ℕ) → readMarkOf v seen won ≡ toOf v (markTo (v .done) seen won (v .worker .own))
-unfolding readMarkOf markTo
+    (v : View) (seen : LockWord) (won : ℕ) → readMarkStep v seen won ≡ toOf v (markTo (v .done) seen won (v .worker .own))
+unfolding readMarkStep markTo
 mark-is v seen won = by (v .done) (seen .holder)
   where
     own : State
@@ -125,8 +125,8 @@ pub read-is :
     r .next + farOf (actOf (v .instr) (r .registers)) < 2 ^ 8 →
     (Touches (actOf (v .instr) (r .registers)) →
     readingOf (v .word) ≡ x .word (target (actOf (v .instr) (r .registers)))) →
-    steps.readOf v r ≡ atOf v (pointOf (machine.readOf (actOf (v .instr) (r .registers)) x r))
-unfolding actOf steps.readOf
+    steps.readStep v r ≡ atOf v (pointOf (machine.machineRead (actOf (v .instr) (r .registers)) x r))
+unfolding actOf steps.readStep
 read-is v r x = by (asksOf (v .instr) (r .registers))
   where
     by :
@@ -134,13 +134,13 @@ read-is v r x = by (asksOf (v .instr) (r .registers))
         (Touches (actBy (v .instr) (r .registers) a) → readingOf (v .word) ≡ x .word (target (actBy (v .instr) (r .registers) a))) →
         onAsks a (λ said. atOf v (Point.Run r (Mark said))) (λ rs n. atOf v (Point.Run (steps.ontoOf r n rs) Read))
         (λ w. atOf v (Point.Run r (Commit (readingOf (v .word))))) ≡
-        atOf v (pointOf (machine.readOf (actBy (v .instr) (r .registers) a) x r))
+        atOf v (pointOf (machine.machineRead (actBy (v .instr) (r .registers) a) x r))
     by (Halt said) h t = refl
     by (Go rs n) h t = ap (λ (r : Run). atOf v (Point.Run r Read)) (onto-is r n rs h)
     by (Touch w) h t = ap (λ (u : Reading). atOf v (Point.Run r (Commit u))) (t tt)
 
 -- no read changes what is shared
-pub read-keeps : (a : Act) (x : Shared) (r : Run) → machine.readOf a x r .shared ≡ x
+pub read-keeps : (a : Act) (x : Shared) (r : Run) → machine.machineRead a x r .shared ≡ x
 read-keeps (fin said) x r = refl
 read-keeps (go rs n) x r = refl
 read-keeps (touch w f) x r = refl
@@ -167,7 +167,7 @@ committed-is y u = by (y .fill) refl
 follow-is :
     (v : View) (x : Shared) (r : Run) (held : Reading) (f : Follows) → r .next + 1 < 2 ^ 8 →
     onFollows f (λ rs. atOf v (Point.Run (steps.ontoOf r 0 rs) Read)) (λ new. atOf v (Point.Run r (Swap held new))) ≡
-    atOf v (pointOf (machine.followOf f x r held))
+    atOf v (pointOf (machine.machineFollow f x r held))
 follow-is v x r held (follows.Done rs) h = ap (λ (r : Run). atOf v (Point.Run r Read)) (onto-is r 0 rs h)
 follow-is v x r held (follows.Swap new) h = refl
 
@@ -177,27 +177,27 @@ pub commit-is :
     x .log (r .place) ≡ v .entry .fill →
     r .next + 1 < 2 ^ 8 →
     r .place + 1 < 2 ^ 8 →
-    steps.commitOf v r u ≡
-    atOf (withEntry v (committedOf (v .entry) u)) (pointOf (machine.commitOf (actOf (v .instr) (r .registers)) x r u))
-unfolding actOf steps.commitOf steps.followOf holdsOf
+    steps.commitStep v r u ≡
+    atOf (viewWithEntry v (committedOf (v .entry) u)) (pointOf (machine.machineCommit (actOf (v .instr) (r .registers)) x r u))
+unfolding actOf steps.commitStep steps.followStep holdsOf
 commit-is v r u x t e h k =
-    let now = withEntry v (committedOf (v .entry) u) in
+    let now = viewWithEntry v (committedOf (v .entry) u) in
     let held = heldOf (v .entry .fill) u in
-    ap (λ (r : Run). steps.followOf now r held) (logged-is r k) ∙
-    follow-is now x (loggedOf r) held (followsOf (v .instr) (r .registers) (held .value)) h ∙
+    ap (λ (r : Run). steps.followStep now r held) (logged-is r k) ∙
+    follow-is now x (machineLogged r) held (followsOf (v .instr) (r .registers) (held .value)) h ∙
     ap (λ (p : Point). atOf now p) (by (asksOf (v .instr) (r .registers)) t)
   where
     to : Fill → Point
-    to z = pointOf (machine.followOf (followsOf (v .instr) (r .registers) (heldOf z u .value)) x (loggedOf r) (heldOf z u))
+    to z = pointOf (machine.machineFollow (followsOf (v .instr) (r .registers) (heldOf z u .value)) x (machineLogged r) (heldOf z u))
 
-    by : (a : Asks) → Logs (actBy (v .instr) (r .registers) a) → to (v .entry .fill) ≡ pointOf (machine.commitOf (actBy (v .instr) (r .registers) a) x r u)
+    by : (a : Asks) → Logs (actBy (v .instr) (r .registers) a) → to (v .entry .fill) ≡ pointOf (machine.machineCommit (actBy (v .instr) (r .registers) a) x r u)
     by (Halt said) t = absurd t
     by (Go rs n) t = absurd t
     by (Touch w) t = ap to (sym e)
 
 pub commit-shares :
     (a : Act) (x : Shared) (r : Run) (u : Reading) → Logs a →
-    machine.commitOf a x r u .shared ≡
+    machine.machineCommit a x r u .shared ≡
     record { word = x .word; log = put (x .log) (r .place) (Filled (heldOf (x .log (r .place)) u)) }
 commit-shares (fin said) x r u t = absurd t
 commit-shares (go rs n) x r u t = absurd t
@@ -206,8 +206,8 @@ commit-shares (touch w f) x r u t = refl
 -- "Swap"
 pub swap-is :
     (w : Word) (y : Reading) (new : ℕ) → w .count + 1 < 2 ^ 32 →
-    readingOf (parts.swapOf w y new) ≡ machine.swapOf (readingOf w) y new
-unfolding parts.swapOf machine.swapOf
+    readingOf (parts.swapOf w y new) ≡ machine.machineSwap (readingOf w) y new
+unfolding parts.swapOf machine.machineSwap
 swap-is w y new h = by (eqb (w .value) (y .value)) (eqb (w .count) (y .count))
   where
     by :

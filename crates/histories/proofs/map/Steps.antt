@@ -16,7 +16,7 @@ use Rattle.parts.specs.declared.Reading.{Reading}
 use Rattle.records.specs.Job.{jobOf}
 use Rattle.steps.specs.Places.{spotOf}
 use Rattle.steps.specs.Try as steps
-use Rattle.steps.specs.Try.{withLock, withWord, withEntry, withDone, toOf, atOf, effectOf}
+use Rattle.steps.specs.Try.{viewWithLock, viewWithWord, viewWithEntry, viewWithDone, toOf, atOf, effectOf}
 use Rattle.steps.specs.Worker as tries
 use Rattle.steps.specs.Worker.{worker0, lookingOf, beganOf}
 use Rattle.steps.specs.declared.Point.{Point}
@@ -36,7 +36,7 @@ use Rattle.engine.specs.declared.Places.{Places}
 use Rattle.engine.specs.declared.Sheet.{Sheet}
 use Rattle.helping.specs.Ideal.{Logs, Touches}
 use Rattle.helping.specs.Machine as machine
-use Rattle.helping.specs.Machine.{Rules, Scene, Shared, Pace, put, actOf, target, heldOf, ontoOf, sharedOf, setShared, setLock, movedOf, onTo, lookTo, pointOf, paceOf, stepAt, begunOf, idledOf}
+use Rattle.helping.specs.Machine.{Rules, Scene, Shared, Pace, put, actOf, target, heldOf, machineOnto, sharedOf, setShared, setLock, machineMoved, onTo, lookTo, pointOf, paceOf, stepAt, machineBegun, idledOf}
 use Rattle.helping.specs.Ok.{Ranged}
 use Rattle.ranges.specs.Good.{Good}
 use Rattle.ranges.proofs.Programs.{begun-program, looks, begun-job}
@@ -62,7 +62,7 @@ module _ (K : Rules) (e : Engine) (g : Good e) (u : Under K e) (r : Ranged K (sc
         program = sceneOf e .program;
         done = D;
         log = M;
-        worker = put (sceneOf e .worker) w (movedOf (workerAt e w) s);
+        worker = put (sceneOf e .worker) w (machineMoved (workerAt e w) s);
       }
   stepped p q v s f k a b c d =
       let i = r .point w p q in
@@ -87,10 +87,10 @@ module _ (K : Rules) (e : Engine) (g : Good e) (u : Under K e) (r : Ranged K (sc
   -- the lock word changes
   lock-step :
       (p : Point) (x : LockWord) (s : State) → workerAt e w .state ≡ UnderWay p →
-      effectOf p (viewOf e w p) ≡ toOf (withLock (viewOf e w p) x) s →
+      effectOf p (viewOf e w p) ≡ toOf (viewWithLock (viewOf e w p) x) s →
       sceneOf (steppedOf e w p) ≡ onTo (setLock (sceneOf e) (workerAt e w .lock) x) w (workerAt e w) s
   unfolding viewAt
-  lock-step p x s q f = stepped p q (withLock (viewOf e w p) x) s f refl (word-back e w p) refl (done-back e w p) (log-back e w p (place-of p q))
+  lock-step p x s q f = stepped p q (viewWithLock (viewOf e w p) x) s f refl (word-back e w p) refl (done-back e w p) (log-back e w p (place-of p q))
 
   -- where a step of a run leads
   abbrev pacedBy : Run → Pace → Scene
@@ -107,12 +107,12 @@ module _ (K : Rules) (e : Engine) (g : Good e) (u : Under K e) (r : Ranged K (sc
       let v = viewOf e w p in
       let x = sharedOf (sceneOf e) (c .sheet) in
       let act = actIn e w p c in
-      let to = machine.readOf act x c in
+      let to = machine.machineRead act x c in
       stepped p q v (UnderWay (pointOf to))
       (read-is v c x (omega (arith, a .far)) (λ t. ap (sceneOf e .word) (a .word t))) refl (word-back e w p) (lock-back e w p)
       (done-back e w p) (entry-back e w p (place-of p q)) ∙
       ap (λ (y : Shared). pacedBy c (record { shared = y; run = to .run; stage = to .stage })) (sym (read-keeps act x c)) ∙
-      ap (λ (n : Instr). pacedBy c (machine.readOf (actOf n (c .registers)) x c)) (sym (a .instr))
+      ap (λ (n : Instr). pacedBy c (machine.machineRead (actOf n (c .registers)) x c)) (sym (a .instr))
 
   commit-at :
       (c : Run) (y : Reading) → workerAt e w .state ≡ UnderWay (Point.Run c (Commit y)) →
@@ -129,18 +129,18 @@ module _ (K : Rules) (e : Engine) (g : Good e) (u : Under K e) (r : Ranged K (sc
       let z = entry-is e w p (place-of p q) in
       let filled : committedOf (v .entry) y .fill ≡ Filled (heldOf (x .log (c .place)) y) =
       committed-is (v .entry) y ∙ ap (λ (s : Fill). Filled (heldOf s y)) (sym z) in
-      let to = machine.commitOf act x c y in
-      stepped p q (withEntry v (committedOf (v .entry) y)) (UnderWay (pointOf to))
+      let to = machine.machineCommit act x c y in
+      stepped p q (viewWithEntry v (committedOf (v .entry) y)) (UnderWay (pointOf to))
       (commit-is v c y x t z (omega (arith, a .far)) (omega (arith, a .place))) refl (word-back e w p) (lock-back e w p)
       (done-back e w p) (ap (λ (s : Fill). put (sceneOf e .log) (c .sheet) (put (x .log) (c .place) s)) filled) ∙
       ap (λ (s : Shared). pacedBy c (record { shared = s; run = to .run; stage = to .stage }))
       (sym (commit-shares act x c y t)) ∙
-      ap (λ (n : Instr). pacedBy c (machine.commitOf (actOf n (c .registers)) x c y)) (sym (a .instr))
+      ap (λ (n : Instr). pacedBy c (machine.machineCommit (actOf n (c .registers)) x c y)) (sym (a .instr))
 
   swap-at :
       (c : Run) (y : Reading) (new : ℕ) → workerAt e w .state ≡ UnderWay (Point.Run c (Swap y new)) →
       sceneOf (steppedOf e w (Point.Run c (Swap y new))) ≡ stepAt K (sceneOf e) w (workerAt e w) (Point.Run c (Swap y new))
-  unfolding stepAt paceOf effectOf viewAt spotOf steps.swapOf
+  unfolding stepAt paceOf effectOf viewAt spotOf steps.swapStep
   swap-at c y new q =
       let p = Point.Run c (Swap y new) in
       let i = r .point w p q in
@@ -151,11 +151,11 @@ module _ (K : Rules) (e : Engine) (g : Good e) (u : Under K e) (r : Ranged K (sc
       let low : wordAt e m .count ≤ (instructions - 1) * lastTurn =
       subst (λ (n : ℕ). wordAt e m .count ≤ (n - 1) * lastTurn) (u .most)
       (subst (λ (n : ℕ). wordAt e m .count ≤ (K .most - 1) * n) (u .last) (r .count m (omega (arith, a .word t, a .below t)))) in
-      stepped p q (withWord v (parts.swapOf (v .word) y new)) (UnderWay (Point.Run (ontoOf c 0 (c .registers)) Read))
-      (ap (λ (d : Run). atOf (withWord v (parts.swapOf (v .word) y new)) (Point.Run d Read))
+      stepped p q (viewWithWord v (parts.swapOf (v .word) y new)) (UnderWay (Point.Run (machineOnto c 0 (c .registers)) Read))
+      (ap (λ (d : Run). atOf (viewWithWord v (parts.swapOf (v .word) y new)) (Point.Run d Read))
       (onto-is c 0 (c .registers) (omega (arith, a .far)))) refl
       (ap (put (sceneOf e .word) m) (swap-is (v .word) y new (omega (arith, low))) ∙
-      ap (λ (n : ℕ). put (sceneOf e .word) n (machine.swapOf (sceneOf e .word n) y new)) (a .word t))
+      ap (λ (n : ℕ). put (sceneOf e .word) n (machine.machineSwap (sceneOf e .word n) y new)) (a .word t))
       (lock-back e w p) (done-back e w p) (entry-back e w p (place-of p q)) ∙
       ap
       (λ (n : Instr).
@@ -163,8 +163,8 @@ module _ (K : Rules) (e : Engine) (g : Good e) (u : Under K e) (r : Ranged K (sc
       pacedBy c
       (record {
         shared =
-            record { word = put (sceneOf e .word) d (machine.swapOf (sceneOf e .word d) y new); log = sceneOf e .log (c .sheet) };
-        run = ontoOf c 0 (c .registers);
+            record { word = put (sceneOf e .word) d (machine.machineSwap (sceneOf e .word d) y new); log = sceneOf e .log (c .sheet) };
+        run = machineOnto c 0 (c .registers);
         stage = Read;
       }))
       (sym (a .instr))
@@ -172,7 +172,7 @@ module _ (K : Rules) (e : Engine) (g : Good e) (u : Under K e) (r : Ranged K (sc
   pub step-at :
       (p : Point) → workerAt e w .state ≡ UnderWay p →
       sceneOf (steppedOf e w p) ≡ stepAt K (sceneOf e) w (workerAt e w) p
-  unfolding stepAt effectOf viewAt spotOf steps.grabOf steps.lookAgainOf steps.markOf steps.releaseOf parts.releaseOf machine.releaseOf
+  unfolding stepAt effectOf viewAt spotOf steps.grabStep steps.lookAgainStep steps.markStep steps.releaseStep parts.releaseOf machine.machineRelease
   step-at Look q =
       before-run Look (lookTo lastTurn (lockAt e (workerAt e w .lock))) q (look-is (viewOf e w Look)) ∙
       ap (λ (n : ℕ). onTo (sceneOf e) w (workerAt e w) (lookTo n (lockAt e (workerAt e w .lock)))) (sym (u .last))
@@ -180,7 +180,7 @@ module _ (K : Rules) (e : Engine) (g : Good e) (u : Under K e) (r : Ranged K (sc
       let i : seen < K .last = r .point w (Grab seen) q in
       let n : next32 seen ≡ suc seen = omega (arith, u .last) in
       let x = grab-is (lockAt e (workerAt e w .lock)) seen (workerAt e w .own) (omega (arith, u .last)) in
-      lock-step (Grab seen) _ _ q (λ j. atOf (withLock (viewOf e w (Grab seen)) (x j)) (LookAgain (n j)))
+      lock-step (Grab seen) _ _ q (λ j. atOf (viewWithLock (viewOf e w (Grab seen)) (x j)) (LookAgain (n j)))
   step-at (LookAgain won) q = before-run (LookAgain won) _ q refl
   step-at (ReadMark seen won) q = before-run (ReadMark seen won) _ q (mark-is (viewOf e w (ReadMark seen won)) seen won)
   step-at (Point.Run c Read) q = read-at c q
@@ -188,7 +188,7 @@ module _ (K : Rules) (e : Engine) (g : Good e) (u : Under K e) (r : Ranged K (sc
   step-at (Point.Run c (Swap y new)) q = swap-at c y new q
   step-at (Point.Run c (Mark said)) q =
       let p = Point.Run c (Mark said) in
-      stepped p q (withDone (viewOf e w p)) _ refl refl (word-back e w p) (lock-back e w p) refl (log-back e w p (place-of p q))
+      stepped p q (viewWithDone (viewOf e w p)) _ refl refl (word-back e w p) (lock-back e w p) refl (log-back e w p (place-of p q))
   step-at (Point.Run c (Release said)) q = lock-step (Point.Run c (Release said)) _ _ q refl
 
 pub step-is :
@@ -198,7 +198,7 @@ step-is K e g u r w p h q = step-at K e g u r w h p q
 
 pub begin-is :
     (e : Engine) → Good e → (w l : ℕ) (rec : List ℕ) → Begins e w l rec →
-    sceneOf (takenOf e w l rec) ≡ begunOf (sceneOf e) w l (jobOf rec) (freeSheet e)
+    sceneOf (takenOf e w l rec) ≡ machineBegun (sceneOf e) w l (jobOf rec) (freeSheet e)
 unfolding engine.begunOf
 begin-is e g w l rec b =
     let s = freeSheet e in

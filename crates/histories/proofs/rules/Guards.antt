@@ -14,7 +14,7 @@ use Rattle.parts.specs.declared.Told.{Told}
 use Rattle.parts.specs.declared.Told.the-variants.{Refused}
 use Rattle.parts.specs.declared.Word.{Word}
 use Rattle.alone.proofs.Bounds.{asks-all, follows-all}
-use Rattle.steps.specs.Try.{lookOf, grabOf, lookAgainOf, readMarkOf, readOf, followOf, commitOf, swapOf, markOf, releaseOf, effectOf}
+use Rattle.steps.specs.Try.{lookStep, grabStep, lookAgainStep, readMarkStep, readStep, followStep, commitStep, swapStep, markStep, releaseStep, effectOf}
 use Rattle.steps.specs.declared.Point.{Point}
 use Rattle.steps.specs.declared.Point.the-variants.{Look, Grab, LookAgain, ReadMark}
 use Rattle.steps.specs.declared.Stage.the-variants.{Read, Commit, Swap, Mark, Release}
@@ -40,7 +40,7 @@ module _ (v : View) where
   Same u = u .word .guard ≡ v .word .guard
 
   effect-guard : (p : Point) → Same (effectOf p v)
-  unfolding effectOf lookOf grabOf lookAgainOf readMarkOf readOf commitOf followOf swapOf markOf releaseOf parts.swapOf
+  unfolding effectOf lookStep grabStep lookAgainStep readMarkStep readStep commitStep followStep swapStep markStep releaseStep parts.swapOf
   effect-guard Look = holder-each Same (v .lock .holder) _ _ (pick-all Same (eqb (v .lock .turn) lastTurn) _ _ refl refl) (λ s. refl)
   effect-guard (Grab seen) = refl
   effect-guard (LookAgain won) = refl

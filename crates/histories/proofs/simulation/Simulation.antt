@@ -21,7 +21,7 @@ use Rattle.engine.specs.declared.Collected.{Collected}
 use Rattle.engine.specs.declared.Engine.{Engine}
 use Rattle.engine.specs.declared.Outcome.{Outcome}
 use Rattle.engine.proofs.Begins.{begins}
-use Rattle.helping.specs.Machine.{Rules, Scene, Tale, put, stepAt, withWon, stepTale, Unused, begunOf, beginTale, idledOf}
+use Rattle.helping.specs.Machine.{Rules, Scene, Tale, put, stepAt, withWon, stepTale, Unused, machineBegun, beginTale, idledOf}
 use Rattle.helping.specs.Ideal.{Fine}
 use Rattle.helping.specs.Ok.{Ranged}
 use Rattle.ranges.specs.Good.{Good}
@@ -38,7 +38,7 @@ pub data Simulated (K : Rules) (E : Scene) (T : Tale) (S : ℕ → ℕ) (E′ : 
   unchanged : E′ ≡ E → T′ ≡ T → S′ ≡ S → Simulated K E T S E′ T′ S′
   begun :
       (i l s : ℕ) (code : List Instr) → E .worker i .state ≡ Idle → Unused E s → Fine K l code →
-      E′ ≡ begunOf E i l code s → T′ ≡ beginTale T i l code → S′ ≡ put S i 0 → Simulated K E T S E′ T′ S′
+      E′ ≡ machineBegun E i l code s → T′ ≡ beginTale T i l code → S′ ≡ put S i 0 → Simulated K E T S E′ T′ S′
   moved :
       (i : ℕ) (p : Point) → E .worker i .state ≡ UnderWay p → E′ ≡ stepAt K E i (E .worker i) p →
       T′ ≡ stepTale T E i (E .worker i) p → S′ ≡ put S i (suc (S i)) → Simulated K E T S E′ T′ S′
@@ -85,7 +85,7 @@ module _ (K : Rules) (x : Sofar) (g : Good (x .state)) (u : Under K (x .state)) 
     where
       go : (t : Told) → stepTold (x .state) w ≡ t → Sim K x (ifAccepted x (stepOf (x .state) w) (stepped x w))
       go Accepted e =
-          let seat = one-of w (steps.stepTold (workerAt (x .state) w)) e in
+          let seat = one-of w (steps.stepByState (workerAt (x .state) w)) e in
           let at = point-of (workerAt (x .state) w) (seat .1) in
           subst (λ (o : Outcome). Sim K x (ifAccepted x o (stepped x w)))
           (sym
@@ -116,7 +116,7 @@ module _ (K : Rules) (x : Sofar) (g : Good (x .state)) (u : Under K (x .state)) 
     where
       go : (t : Told) → collectTold (x .state) w ≡ t → Sim K x (thenOf x (Collect w))
       go Accepted e =
-          let seat = one-of w (steps.collectTold (workerAt (x .state) w)) e in
+          let seat = one-of w (steps.collectByState (workerAt (x .state) w)) e in
           idle-sim w (collectedOf (workerAt (x .state) w)) (collectOf (x .state) w .engine) (seat .0)
           (collected-is (workerAt (x .state) w) (seat .1))
           (ap (λ (o : Collected). o .engine) (collect-told (x .state) w Accepted e))
@@ -129,7 +129,7 @@ module _ (K : Rules) (x : Sofar) (g : Good (x .state)) (u : Under K (x .state)) 
     where
       go : (t : Told) → dropTold (x .state) w ≡ t → Sim K x (thenOf x (Drop w))
       go Accepted e =
-          let seat = one-of w (steps.dropTold (workerAt (x .state) w)) e in
+          let seat = one-of w (steps.dropByState (workerAt (x .state) w)) e in
           idle-sim w (droppedOf (workerAt (x .state) w)) (dropOf (x .state) w .engine) (seat .0)
           (dropped-is (workerAt (x .state) w) (seat .1))
           (ap (λ (o : Outcome). o .engine) (drop-told (x .state) w Accepted e))

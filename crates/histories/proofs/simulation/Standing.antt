@@ -11,7 +11,7 @@ use Rattle.engine.specs.Calls.{setupOf, outcomeOf, beginTold, beginOf, stepTold
 use Rattle.engine.specs.declared.Engine.{Engine}
 use Rattle.helping.specs.Machine.{Rules, Scene, Tale}
 use Rattle.helping.specs.Ideal.{Guarded}
-use Rattle.helping.specs.Ok.{Busy, Next, Over}
+use Rattle.helping.specs.Ok.{NotIdle, Next, Over}
 use Rattle.ranges.specs.Good.{Good}
 use Rattle.past.specs.Past.{Call, Begin, Step, Collect, Drop, ReadWord, ReadLock, Show, Park, AllRecords, Past, after, afterAll}
 use Rattle.histories.specs.History.{Sofar, start, thenOf, follow, sofar, Guards}
@@ -136,7 +136,7 @@ standing-start rec b =
       good = good-setup rec b;
       under = under-start rec b;
       next = fresh-ok _ _ (fresh-is rec b);
-      counted = λ v y. absurd (subst (λ (k : Worker). Busy (k .state)) (fresh-is rec b .idle v) y);
+      counted = λ v y. absurd (subst (λ (k : Worker). NotIdle (k .state)) (fresh-is rec b .idle v) y);
     }
 
 pub standing-past : (p : Past) → Standing (rulesOf (setupOf (p .setup) .engine)) (sofar p)

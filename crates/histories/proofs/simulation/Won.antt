@@ -13,7 +13,7 @@ use Rattle.steps.specs.declared.Point.{Point}
 use Rattle.steps.specs.declared.Point.the-variants.{Look, Grab, LookAgain, ReadMark}
 use Rattle.steps.specs.declared.Stage.the-variants.{Read, Commit, Swap, Mark, Release}
 use Rattle.steps.specs.declared.Worker.{Worker}
-use Rattle.helping.specs.Machine.{Rules, Scene, Tale, put, grabOf, releaseOf, stepAt, stepTale, grabTale, withWon, winTale}
+use Rattle.helping.specs.Machine.{Rules, Scene, Tale, put, machineGrab, machineRelease, stepAt, stepTale, grabTale, withWon, winTale}
 use Rattle.histories.specs.History.{wonBy}
 
 holds-still : (l : LockWord) → wonBy l l ≡ false
@@ -30,11 +30,11 @@ put-still f k x h l = go (eqb l k) refl
     go true e = subst (λ (m : ℕ). wonBy (f m) x ≡ false) (sym (eqb-true l k e)) h
     go false e = holds-still (f l)
 
-release-still : (l : LockWord) (won s : ℕ) → wonBy l (releaseOf l won s) ≡ false
-unfolding releaseOf
+release-still : (l : LockWord) (won s : ℕ) → wonBy l (machineRelease l won s) ≡ false
+unfolding machineRelease
 release-still l won s = go (l .holder) refl
   where
-    go : (h : Holder) → l .holder ≡ h → wonBy l (releaseOf l won s) ≡ false
+    go : (h : Holder) → l .holder ≡ h → wonBy l (machineRelease l won s) ≡ false
     go Free e = rw e
     go (By t) e = rw e
 
@@ -60,9 +60,9 @@ one-won T i k f x h = λ j l. go l (eqb l k) refl j
 
 grabbed :
     (T : Tale) (i k : ℕ) (f : ℕ → LockWord) (seen own : ℕ) →
-    (λ l. pick (wonBy (f l) (put f k (grabOf (f k) seen own) l)) (T .tries i ∷ T .won l) (T .won l)) ≡
+    (λ l. pick (wonBy (f l) (put f k (machineGrab (f k) seen own) l)) (T .tries i ∷ T .won l) (T .won l)) ≡
     grabTale T i k (f k) seen .won
-unfolding grabOf grabTale
+unfolding machineGrab grabTale
 grabbed T i k f seen own = go (f k .holder) (eqb (f k .turn) seen) refl
   where
     go :
@@ -87,7 +87,7 @@ won-is K T E i k (Point.Run r (Commit u)) = none-won T i (E .lock) (E .lock) (λ
 won-is K T E i k (Point.Run r (Swap e new)) = none-won T i (E .lock) (E .lock) (λ l. holds-still (E .lock l))
 won-is K T E i k (Point.Run r (Mark said)) = none-won T i (E .lock) (E .lock) (λ l. holds-still (E .lock l))
 won-is K T E i k (Point.Run r (Release said)) =
-    none-won T i (E .lock) (put (E .lock) (k .lock) (releaseOf (E .lock (k .lock)) (r .won) (r .sheet)))
+    none-won T i (E .lock) (put (E .lock) (k .lock) (machineRelease (E .lock (k .lock)) (r .won) (r .sheet)))
     (put-still (E .lock) (k .lock) _ (release-still (E .lock (k .lock)) (r .won) (r .sheet)))
 
 -- nothing else of the tale moves

@@ -1,12 +1,12 @@
 -- Each arm is what the definition picks for that tag.
 use borrow.Author.Needs.{needs}
 use Rattle.parts.proofs.Laws.{laws}
-use Rattle.cells.specs.Codes.{stateOf}
+use Rattle.cells.specs.Codes.{stateIn}
 use Rattle.cells.proofs.worker.state_at.Statement.{statement}
 use Rattle.cells.proofs.worker.state_at.Tie as tie
 
 pub state-at-spec : {M : Type 1} → statement M
-unfolding stateOf
+unfolding stateIn
 state-at-spec =
     tie.close
     (tie.spec

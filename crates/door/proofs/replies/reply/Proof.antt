@@ -1,7 +1,7 @@
 -- Each arm is what the definition has in that case.
 use borrow.Author.Needs.{needs}
 use Rattle.parts.proofs.Laws.{at-case}
-use Rattle.door.specs.Door.{replyOf}
+use Rattle.door.specs.Door.{toldFields}
 use Rattle.door.proofs.replies.reply.Statement.{statement}
 use Rattle.door.proofs.replies.reply.Tie as tie
 
@@ -12,5 +12,5 @@ reply-spec =
     (λ c. search needs)
     (λ c. search needs)
     (λ c κs. search needs)
-    (λ c. search (at-case replyOf))
-    (λ c. simp (c .refusal-reply .ensures) (search (at-case replyOf))))
+    (λ c. search (at-case toldFields))
+    (λ c. simp (c .refusal-reply .ensures) (search (at-case toldFields))))

@@ -1,7 +1,7 @@
 -- Each arm is what the definition has in that case.
 use borrow.Author.Needs.{needs}
 use Rattle.parts.proofs.Laws.{at-case}
-use Rattle.door.specs.Door.{wordOf}
+use Rattle.door.specs.Door.{wordFields}
 use Rattle.door.proofs.replies.word_read.Statement.{statement}
 use Rattle.door.proofs.replies.word_read.Tie as tie
 
@@ -14,5 +14,5 @@ word-read-spec =
     (λ c. search needs)
     (λ c κs. search needs)
     (λ c κs. search needs)
-    (λ c. search (at-case wordOf))
-    (λ c. simp (c .no-word .ensures, c .before .refusal-reply .ensures) (search (at-case wordOf))))
+    (λ c. search (at-case wordFields))
+    (λ c. simp (c .no-word .ensures, c .before .refusal-reply .ensures) (search (at-case wordFields))))

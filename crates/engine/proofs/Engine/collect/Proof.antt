@@ -10,7 +10,7 @@ use Rattle.engine.proofs.Engine.collect.Statement.{statement}
 use Rattle.engine.proofs.Engine.collect.Tie as tie
 
 pub collect-spec : {M : Type 1} → statement M
-unfolding collectOf worker.collectTold
+unfolding collectOf worker.collectByState
 collect-spec =
     tie.close
     (tie.spec

@@ -10,7 +10,7 @@ use Rattle.engine.proofs.Engine.drop.Statement.{statement}
 use Rattle.engine.proofs.Engine.drop.Tie as tie
 
 pub drop-spec : {M : Type 1} → statement M
-unfolding dropOf worker.dropTold
+unfolding dropOf worker.dropByState
 drop-spec =
     tie.close
     (tie.spec

@@ -10,7 +10,7 @@ use Rattle.engine.proofs.Engine.step.Statement.{statement}
 use Rattle.engine.proofs.Engine.step.Tie as tie
 
 pub step-spec : {M : Type 1} → statement M
-unfolding stepOf worker.stepTold
+unfolding stepOf worker.stepByState
 step-spec =
     tie.close
     (tie.spec

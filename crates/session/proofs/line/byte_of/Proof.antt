@@ -1,11 +1,11 @@
 -- Each digit is below 16, so that the byte fits; what it is follows from what the two calls ensure.
 use borrow.Author.Needs.{needs}
-use Rattle.session.specs.Line.{byteOf}
+use Rattle.session.specs.Line.{hexByte}
 use Rattle.session.proofs.line.byte_of.Statement.{statement}
 use Rattle.session.proofs.line.byte_of.Tie as tie
 
 pub byte-of-spec : {M : Type 1} → statement M
-unfolding byteOf
+unfolding hexByte
 byte-of-spec =
     tie.close
     (tie.spec

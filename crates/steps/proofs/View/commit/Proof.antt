@@ -1,11 +1,11 @@
 -- By what the callees ensure.
 use borrow.Author.Needs.{needs}
-use Rattle.steps.specs.Try.{commitOf}
+use Rattle.steps.specs.Try.{commitStep}
 use Rattle.steps.proofs.View.commit.Statement.{statement}
 use Rattle.steps.proofs.View.commit.Tie as tie
 
 pub commit-spec : {M : Type 1} → statement M
-unfolding commitOf
+unfolding commitStep
 commit-spec =
     tie.close
     (tie.spec

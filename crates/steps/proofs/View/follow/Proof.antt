@@ -1,12 +1,12 @@
 -- Each return is what the definition picks on the way that led there, by what the callees ensure.
 use borrow.Author.Needs.{needs}
-use Rattle.steps.specs.Try.{followOf}
+use Rattle.steps.specs.Try.{followStep}
 use Rattle.steps.proofs.Laws.{asking}
 use Rattle.steps.proofs.View.follow.Statement.{statement}
 use Rattle.steps.proofs.View.follow.Tie as tie
 
 pub follow-spec : {M : Type 1} → statement M
-unfolding followOf
+unfolding followStep
 follow-spec =
     tie.close
     (tie.spec

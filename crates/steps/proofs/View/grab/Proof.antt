@@ -1,11 +1,11 @@
 -- By what the callees ensure.
 use borrow.Author.Needs.{needs}
-use Rattle.steps.specs.Try.{grabOf}
+use Rattle.steps.specs.Try.{grabStep}
 use Rattle.steps.proofs.View.grab.Statement.{statement}
 use Rattle.steps.proofs.View.grab.Tie as tie
 
 pub grab-spec : {M : Type 1} → statement M
-unfolding grabOf
+unfolding grabStep
 grab-spec =
     tie.close
     (tie.spec

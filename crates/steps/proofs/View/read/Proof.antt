@@ -1,12 +1,12 @@
 -- Each return is what the definition picks on the way that led there, by what the callees ensure.
 use borrow.Author.Needs.{needs}
-use Rattle.steps.specs.Try.{readOf}
+use Rattle.steps.specs.Try.{readStep}
 use Rattle.steps.proofs.Laws.{asking}
 use Rattle.steps.proofs.View.read.Statement.{statement}
 use Rattle.steps.proofs.View.read.Tie as tie
 
 pub read-spec : {M : Type 1} → statement M
-unfolding readOf
+unfolding readStep
 read-spec =
     tie.close
     (tie.spec

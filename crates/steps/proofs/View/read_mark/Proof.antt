@@ -1,12 +1,12 @@
 -- Each return is what the definition picks on the way that led there, by what the callees ensure.
 use borrow.Author.Needs.{needs}
-use Rattle.steps.specs.Try.{readMarkOf}
+use Rattle.steps.specs.Try.{readMarkStep}
 use Rattle.parts.proofs.Laws.{laws}
 use Rattle.steps.proofs.View.read_mark.Statement.{statement}
 use Rattle.steps.proofs.View.read_mark.Tie as tie
 
 pub read-mark-spec : {M : Type 1} → statement M
-unfolding readMarkOf
+unfolding readMarkStep
 read-mark-spec =
     tie.close
     (tie.spec

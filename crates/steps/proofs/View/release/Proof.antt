@@ -1,11 +1,11 @@
 -- By what the callees ensure.
 use borrow.Author.Needs.{needs}
-use Rattle.steps.specs.Try.{releaseOf}
+use Rattle.steps.specs.Try.{releaseStep}
 use Rattle.steps.proofs.View.release.Statement.{statement}
 use Rattle.steps.proofs.View.release.Tie as tie
 
 pub release-spec : {M : Type 1} → statement M
-unfolding releaseOf
+unfolding releaseStep
 release-spec =
     tie.close
     (tie.spec

@@ -1,6 +1,6 @@
 -- Each arm is what the definition has at that stage.
 use borrow.Author.Needs.{needs}
-use Rattle.steps.specs.Try.{runEffect}
+use Rattle.steps.specs.Try.{runStep}
 use Rattle.steps.proofs.Laws.{at-stage}
 use Rattle.steps.proofs.View.run_on.Statement.{statement}
 use Rattle.steps.proofs.View.run_on.Tie as tie
@@ -19,8 +19,8 @@ run-on-spec =
     (λ c κs. search needs)
     (λ c. search needs)
     (λ c κs. search needs)
-    (λ c. search (at-stage runEffect))
-    (λ c. search (at-stage runEffect))
-    (λ c. search (at-stage runEffect))
-    (λ c. search (at-stage runEffect))
-    (λ c. search (at-stage runEffect)))
+    (λ c. search (at-stage runStep))
+    (λ c. search (at-stage runStep))
+    (λ c. search (at-stage runStep))
+    (λ c. search (at-stage runStep))
+    (λ c. search (at-stage runStep)))

@@ -1,11 +1,11 @@
 -- By what the callees ensure.
 use borrow.Author.Needs.{needs}
-use Rattle.steps.specs.Try.{swapOf}
+use Rattle.steps.specs.Try.{swapStep}
 use Rattle.steps.proofs.View.swap.Statement.{statement}
 use Rattle.steps.proofs.View.swap.Tie as tie
 
 pub swap-spec : {M : Type 1} → statement M
-unfolding swapOf
+unfolding swapStep
 swap-spec =
     tie.close
     (tie.spec

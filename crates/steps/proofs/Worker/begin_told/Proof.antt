@@ -1,13 +1,13 @@
 -- Each return is what the definition picks on the way that led there.
 use borrow.Author.Needs.{needs}
-use Rattle.steps.specs.Worker.{beginTold}
+use Rattle.steps.specs.Worker.{beginByState}
 use Rattle.parts.proofs.Laws.{laws}
 use Rattle.steps.proofs.Laws.{states}
 use Rattle.steps.proofs.Worker.begin_told.Statement.{statement}
 use Rattle.steps.proofs.Worker.begin_told.Tie as tie
 
 pub begin-told-spec : {M : Type 1} → statement M
-unfolding beginTold
+unfolding beginByState
 begin-told-spec =
     tie.close
     (tie.spec
