@@ -1,5 +1,5 @@
-/* The peer that bench/run counts beside the archive: the job engine of document 01 in plain C, written for speed, the kind that an
- * old firmware had. All state is one struct that the caller lends. Nothing of it is proved; its nine calls answer as those of
+/* The peer that bench/run counts beside the archive: the job engine of document 01 in plain C, written for speed. All state
+ * is one struct that the caller lends. Nothing of it is proved; once plain_setup was called, its calls answer as those of
  * include/chantgarden.h do (but for 22), and the benchmark holds it against the archive, call by call, before it counts anything.
  *
  * What it does for speed: a step is one jump, since a table has a function for each point, and where an instruction comes next its

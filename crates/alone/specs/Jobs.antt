@@ -16,7 +16,7 @@ pub record Try : Type 0 where
   pub lock : ℕ
   pub program : List Instr
 
--- what the jobs of a list of tries give, "run once each, alone, in order"; the latest stands first
+-- what the jobs of a list of tries give, run once each, alone, in order; the latest stands first
 unfoldable pub givesOf : List Try → List ℕ → List ℕ
 givesOf [] values = values
 givesOf (t ∷ earlier) values = aloneOf (t .program) (givesOf earlier values) .words

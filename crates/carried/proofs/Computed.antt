@@ -26,9 +26,9 @@ use Rattle.tables.specs.Table.{setupS, jobA, ranYes}
 use Rattle.cells.specs.Codes.{atRegister, answerIn, stateIn, workerNumbers}
 use Rattle.cells.specs.Layout.{numbers, unpack, numberAt, runNow, readNow, seenNow, putNumber, putSizes, blanked}
 use Rattle.cells.specs.Pieces.{tab, piecesOf, putPiece}
-use Rattle.lent_moves.specs.Moves.{steppedTo, toGrab, toLookAgain, toReadMark, cleared, started, passed, went, halted, holding, logged, loaded, stored, finished}
+use Rattle.lent_moves.specs.Moves.{steppedTo, toGrab, toLookAgain, toReadMark, cleared, started, passed, went, toMark, holding, logged, loaded, toSwap, finished}
 use Rattle.lent_moves.specs.Looks.{instrNow}
-use Rattle.lent_step.specs.Points.{looked, lookNumbers, grabNumbers, lookAgainNumbers, ranOwn, ranSeen, markRead, readMarkNumbers, firstNumbers, readNumbers, followNumbers, entryFilled, committed, commitNumbers, swapNumbers, markNumbers, releaseNumbers, onwardNumbers, stepNumbers}
+use Rattle.lent_step.specs.Points.{looked, lookNumbers, grabNumbers, lookAgainNumbers, startedOwn, startedSeen, markRead, readMarkNumbers, firstNumbers, readNumbers, followNumbers, entryFilled, committed, commitNumbers, swapNumbers, markNumbers, releaseNumbers, onwardNumbers, stepNumbers}
 use Rattle.lent_in.specs.Laid.{putAll}
 use Rattle.lent_in.specs.Calls.{filledNumbers, setupNumbers, copiedNumbers, begunNumbers, beginNumbers}
 use Rattle.door.specs.Calls.{setupLeft, collectReply}
@@ -64,7 +64,7 @@ record RowA (s : List ℕ) : Type 0 where
   left : LentStands (lentAll s (Begin 0 0 jobA ∷ steps 14 0)) 6 1 1 0 0
 
 computed : RowA (filledNumbers zeros setupS)
-unfolding wordsFrom wordOf lay parts.grabOf parts.releaseOf parts.holdsOf parts.swapOf registerOf wornOf answerNumber refusalNumber refusalPlace u32sOf badlyFormed codeTold instrTold instrsOf jobTold straysAt guardsTold setupTold turnsTold anyOf inUseOf lowestOf helpedOf try.answerOf worker.beganOf worker.beginByState worker.collectByState worker.stepByState beginTold collectOf readLockOf readWordOf setupS jobA answerIn stateIn workerNumbers unpack putSizes tab piecesOf putPiece numberAt putNumber runNow readNow seenNow atRegister steppedTo toGrab toLookAgain toReadMark cleared started passed went halted holding logged loaded stored finished instrNow looked lookNumbers grabNumbers lookAgainNumbers ranOwn ranSeen markRead readMarkNumbers firstNumbers readNumbers followNumbers entryFilled committed commitNumbers swapNumbers markNumbers releaseNumbers onwardNumbers stepNumbers putAll filledNumbers copiedNumbers begunNumbers beginNumbers lentAll lentAfter zeros refusalReply
+unfolding wordsFrom wordOf lay parts.grabOf parts.releaseOf parts.holdsOf parts.swapOf registerOf wornOf answerNumber refusalNumber refusalPlace u32sOf badlyFormed codeTold instrTold instrsOf jobTold straysAt guardsTold setupTold turnsTold anyOf inUseOf lowestOf helpedOf try.answerOf worker.beganOf worker.beginByState worker.collectByState worker.stepByState beginTold collectOf readLockOf readWordOf setupS jobA answerIn stateIn workerNumbers unpack putSizes tab piecesOf putPiece numberAt putNumber runNow readNow seenNow atRegister steppedTo toGrab toLookAgain toReadMark cleared started passed went toMark holding logged loaded toSwap finished instrNow looked lookNumbers grabNumbers lookAgainNumbers startedOwn startedSeen markRead readMarkNumbers firstNumbers readNumbers followNumbers entryFilled committed commitNumbers swapNumbers markNumbers releaseNumbers onwardNumbers stepNumbers putAll filledNumbers copiedNumbers begunNumbers beginNumbers lentAll lentAfter zeros refusalReply
 computed = record { before = refl; told = refl; left = record { word = refl; lock = refl } }
 
 pub row-a : LentEnds (Begin 0 0 jobA ∷ []) 0 (record { more = 14; answer = ranYes; steps = 14; value = 6; count = 1; turn = 1 })

@@ -50,7 +50,7 @@ pub record Tells (s : List ℕ) (e : Engine) : Type 0 where
   pub park : (buf : List ℕ) → parkReply s buf ≡ wroteFields (parkOf e (length buf))
   pub parked : (buf : List ℕ) → parkBuffer s buf ≡ parkedOf e buf
 
--- "Fewer numbers than the layout has: refusal 22, place 0": whichever call it is, and it leaves the numbers and the buffer
+-- Fewer numbers than the layout has: refusal 22, place 0: whichever call it is, and it leaves the numbers and the buffer
 pub record Short (s : List ℕ) : Type 0 where
   pub setup : (rec : List ℕ) → (setupReply s rec ≡ shortReply) × (setupLeft s rec ≡ s)
   pub calls : (cs : List Call) → lentAll s cs ≡ s

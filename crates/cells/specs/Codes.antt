@@ -1,5 +1,5 @@
 -- What the numbers of each piece say, whatever they are, and the numbers that are written for it. A byte is a number's remainder
--- by 256, a flag is "not 0".
+-- by 256; a flag is set where the number isn't 0.
 use Prim.Native.Nat.{ℕ, _+_, _-_, _*_, _/_, _%_, _<_}
 use mathlib.Core.Bool.{Bool}
 use mathlib.Core.List.{List, [], _∷_}
@@ -85,7 +85,7 @@ instrIn l = packedInstr (getD l 0 0)
 abbrev pub instrNumbers : Instr → List ℕ
 instrNumbers x = instrNumber x ∷ []
 
--- 0: empty, 1: filled; value, count
+-- 0: empty, any other: filled, and written as 1; value, count
 abbrev pub fillOf : ℕ → ℕ → ℕ → Fill
 fillOf filled value count = pick (eqb filled 0) Empty (Filled (record { value = value; count = count }))
 

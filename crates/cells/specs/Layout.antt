@@ -138,7 +138,7 @@ seenNow s w = seenIn (rowOf s w)
 unfoldable pub putNumber : List ℕ → ℕ → ℕ → ℕ → List ℕ
 putNumber s w j x = set s (placeOf workerPart w + j) x
 
--- worker w idle, as at the start: no try, so no lock, no own sheet and no steps
+-- worker w idle: no lock, no own sheet, no steps; the numbers of its run stay, and say nothing
 unfoldable pub putIdle : List ℕ → ℕ → List ℕ
 putIdle s w = putNumber (putNumber (putNumber (putNumber s w atTag idleTag) w atLock 0) w atOwn 0) w atSteps 0
 

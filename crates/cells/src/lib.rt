@@ -1,5 +1,5 @@
-// The state as numbers that a caller lends: each piece is read and written in place. A contract gives the numbers exactly, and says
-// what it means for the state that they stand for (`unpack`), so that no caller has to know how a piece is coded.
+// The state as numbers that a caller lends: each piece is read and written in place. Of a whole piece a contract gives the numbers
+// exactly, and the state that they say (`unpack`); of one number of a worker, the numbers alone.
 ghost use mathlib.Core.Path.{_≡_};
 ghost use Prim.Native.Nat.{_≤_, _<_};
 ghost use lib.ListN.{length, getD};

@@ -237,7 +237,7 @@ pub fn point_numbers(k: Worker, p: Point) -> [u32; WORKER_USED]
 {
     match p {
         Point::Look => seen_numbers(k, LOOK, 0, 0, 0, 0),
-        Point::Grab(won) => seen_numbers(k, GRAB, 0, won, 0, 0),
+        Point::Grab(seen) => seen_numbers(k, GRAB, 0, seen, 0, 0),
         Point::LookAgain(won) => seen_numbers(k, LOOK_AGAIN, 0, won, 0, 0),
         Point::ReadMark(l, won) => {
             let h = l.holder;

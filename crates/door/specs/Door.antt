@@ -19,7 +19,7 @@ use Rattle.door.specs.declared.Reply.{Reply}
 use Rattle.door.specs.declared.WordRead.{WordRead}
 use Rattle.door.specs.declared.Wrote.{Wrote}
 
--- "Fewer numbers than the layout has: refusal 22, place 0": the first then, else the second
+-- Fewer numbers than the layout has: refusal 22, place 0: the first then, else the second
 abbrev pub unlessShort : {A : Type 0} → List ℕ → A → A → A
 unlessShort s short x = pick (ltb (length s) numbers) short x
 

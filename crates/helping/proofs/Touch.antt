@@ -134,7 +134,7 @@ module _ (most : ℕ) (x : Shared) (r : Run) where
       by (follows.Done rs) = omega arith
       by (follows.Swap new) = omega arith
 
--- "3(n - 1) + 1": each step of a run brings it nearer to its end
+-- 3(n - 1) + 1: each step of a run brings it nearer to its end
 module _ (K : Rules) (J : Job) (f : FineJob K J) (x : Shared) (j : ℕ) where
   room : (r : Run) → At J j r → r .next + farOf (actIn J j) < K .most
   room r at = omega (arith, at .next, f .short, f .inside _ (idealOf J j .registers) (next-in K J f j))

@@ -200,22 +200,22 @@ pub record Uncut (e : Engine) : Type 0 where
   pub count : (q : ℕ) → q < e .words → wordAt e q .count < 2 ^ 31
   pub worker : (w : ℕ) (p : Point) → workerAt e w .state ≡ UnderWay p → WorkerUncut e w p
 
--- "Cut any sequence of calls anywhere, drops included:" what holds at the end of every history
+-- "Cut any sequence of calls from a valid setup anywhere, drops included.": what holds at the end of every history
 pub record Promised (e₀ : Engine) (x : Sofar) : Type 0 where
-  -- "a free lock's words are what the jobs that won it give, run once each, alone, in order"
+  -- "If it is free, its words are what those jobs give, run once each, alone, in that order."
   pub free : (l : ℕ) → lockAt (x .state) l .holder ≡ Free → Hold e₀ (x .state) l (given e₀ x (x .won l))
-  -- "a held lock's are all but the last, then some first part of the last"
+  -- "If it is held, they are what all but the last give and then some first part of the last"
   pub held : (l s : ℕ) → lockAt (x .state) l .holder ≡ By s → HeldWords e₀ x l s
-  -- "which any other worker completes within 97 steps": every idle worker, with every job that is valid there
+  -- "any worker that then begins a valid job there and is stepped alone completes the last one within 97 steps": every idle worker
   pub helping :
       (l s : ℕ) → lockAt (x .state) l .holder ≡ By s → (w : ℕ) (rec : List ℕ) → w < workers →
       workerAt (x .state) w .state ≡ Idle → AllBytes rec →
       jobTold rec l (guardsOf (wordsOf (x .state))) ≡ Accepted → Completed e₀ x w l rec
-  -- ""ran" tells the answer of that one run"
+  -- ""Ran" tells the yes or no of that one run."
   pub ran :
       (w n : ℕ) (said : Bool) → collectOf (x .state) w .told ≡ CollectTold.Answered (pick said RanYes RanNo) n →
       RanOnce e₀ x (x .tries w) said
-  -- ""not taken" only of a job outside the list", now and at every later cut
+  -- ""Not taken" is only told of a job outside the list.", now and at every later cut
   pub notTaken :
       (w n : ℕ) → collectOf (x .state) w .told ≡ CollectTold.Answered NotTaken n → (more : List Call) → AllRecords more →
       (l : ℕ) → times (x .tries w .number) (follow x more .won l) ≡ 0

@@ -8,7 +8,7 @@ use Rattle.engine.specs.declared.CollectTold.{CollectTold}
 use Rattle.cells.specs.Codes.{answerIn, atSteps, atNew}
 use Rattle.cells.specs.Layout.{unpack, numberAt, putIdle}
 
--- "A refusal returns .. the state as it came": worker w is idle where this was told and accepted
+-- the numbers after a call that told this: worker w idle where it was accepted, else "the state as it came"
 abbrev pub idleNumbers : List ℕ → ℕ → Told → List ℕ
 idleNumbers s w told = onTold told (putIdle s w) (λ r. s)
 

@@ -1,5 +1,5 @@
-// Collect, drop and the two readers, in place on numbers that a caller lends. Each contract gives what is told, the numbers at exit
-// exactly, and the state that they say.
+// Collect, drop and the two readers, in place on numbers that a caller lends. Collect's and drop's contracts give what is told,
+// the numbers at exit exactly, and the state that they say; a reader's, what is told.
 ghost use mathlib.Core.Path.{_≡_};
 ghost use Prim.Native.Nat.{_≤_, _<_};
 ghost use lib.ListN.{length};

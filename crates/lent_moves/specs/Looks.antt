@@ -21,7 +21,7 @@ use Rattle.cells.specs.Codes.{flagOf, atNew}
 use Rattle.cells.specs.Layout.{unpack, numberAt, runNow}
 
 -- What worker w looks at: its own sheet, where its lock stands and the lock word there, what its halt said; of its run, the registers,
--- the instruction, that one's word, and the log entry
+-- the instruction, that one's word, and the log entry; and a sheet
 abbrev pub ownNow : List ℕ → ℕ → ℕ
 ownNow s w = workerAt (unpack s) w .own
 
@@ -59,8 +59,8 @@ sheetNow s i = getD (unpack s .sheet) (i % sheets) sheet0
 abbrev pub sumNow : List ℕ → ℕ → Instr → ℕ
 sumNow s w i = (registerOf (registersNow s w) (i .a) + registerOf (registersNow s w) (i .b)) % 2 ^ 32
 
-abbrev pub restNow : List ℕ → ℕ → Instr → ℕ
-restNow s w i = (registerOf (registersNow s w) (i .a) + 2 ^ 32 - registerOf (registersNow s w) (i .b)) % 2 ^ 32
+abbrev pub differenceNow : List ℕ → ℕ → Instr → ℕ
+differenceNow s w i = (registerOf (registersNow s w) (i .a) + 2 ^ 32 - registerOf (registersNow s w) (i .b)) % 2 ^ 32
 
 -- what the end of the run tells
 abbrev pub answerNow : List ℕ → ℕ → Answer

@@ -1,4 +1,4 @@
--- A worker's moves, straight on its numbers: which of them become what. What the numbers say then is proved (proofs/Moved.antt).
+-- A worker's moves, straight on its numbers: which of them become what. What the numbers say then is proved in lent_step (proofs/Moved.antt).
 use Prim.Native.Nat.{ℕ, _+_, _%_, _^_}
 use mathlib.Core.Bool.{Bool}
 use mathlib.Core.List.{List}
@@ -26,11 +26,12 @@ unfoldable pub toReadMark : List ℕ → ℕ → LockWord → List ℕ
 toReadMark s w l =
     putNumber (putNumber (steppedTo s w readMarkTag) w atSheet (holderNumber (l .holder))) w atValue (l .turn)
 
--- "Run from instruction 0 with registers 0 and log place 0"
+-- the four registers are 0
 unfoldable pub cleared : List ℕ → ℕ → List ℕ
 cleared s w =
     putNumber (putNumber (putNumber (putNumber s w (atRegister 0) 0) w (atRegister 1) 0) w (atRegister 2) 0) w (atRegister 3) 0
 
+-- "Run from instruction 0 with registers 0 and log place 0"
 unfoldable pub started : List ℕ → ℕ → ℕ → ℕ → List ℕ
 started s w sheet won =
     putNumber (putNumber (putNumber (putNumber (cleared (steppedTo s w readTag) w) w atSheet sheet) w atTurn won) w atNext 0) w atPlace 0
@@ -43,15 +44,15 @@ unfoldable pub went : List ℕ → ℕ → ℕ → ℕ → List ℕ
 went s w a x = putNumber (passed s w 0) w (atRegister a) x
 
 -- a halt's answer, on to Mark
-unfoldable pub halted : List ℕ → ℕ → Bool → List ℕ
-halted s w said = putNumber (steppedTo s w markTag) w atNew (flagNumber said)
+unfoldable pub toMark : List ℕ → ℕ → Bool → List ℕ
+toMark s w said = putNumber (steppedTo s w markTag) w atNew (flagNumber said)
 
 -- a reading kept; a word read, on to Commit
 unfoldable pub holding : List ℕ → ℕ → ℕ → Reading → List ℕ
 holding s w tag r = putNumber (putNumber (steppedTo s w tag) w atValue (r .value)) w atCount (r .count)
 
-abbrev pub touched : List ℕ → ℕ → Reading → List ℕ
-touched s w r = holding s w commitTag r
+abbrev pub toCommit : List ℕ → ℕ → Reading → List ℕ
+toCommit s w r = holding s w commitTag r
 
 -- a log entry passed: "the place rises by one"
 abbrev pub placeAfter : List ℕ → ℕ → ℕ
@@ -64,8 +65,8 @@ logged s w = putNumber (passed s w 0) w atPlace (placeAfter s w)
 unfoldable pub loaded : List ℕ → ℕ → ℕ → ℕ → List ℕ
 loaded s w a x = putNumber (logged s w) w (atRegister a) x
 
-unfoldable pub stored : List ℕ → ℕ → Reading → ℕ → List ℕ
-stored s w held new = putNumber (putNumber (holding s w swapTag held) w atPlace (placeAfter s w)) w atNew new
+unfoldable pub toSwap : List ℕ → ℕ → Reading → ℕ → List ℕ
+toSwap s w held new = putNumber (putNumber (holding s w swapTag held) w atPlace (placeAfter s w)) w atNew new
 
 -- on to Release; the end
 abbrev pub toRelease : List ℕ → ℕ → List ℕ

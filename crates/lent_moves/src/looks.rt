@@ -6,7 +6,7 @@ ghost use Rattle.parts.specs.Instr.{overOf};
 ghost use Rattle.parts.specs.Numbers.{workers, mostLocks, mostWords, sheets, entries};
 ghost use Rattle.parts.specs.Parts.{readingOf};
 ghost use Rattle.cells.specs.Layout.{numbers};
-ghost use Rattle.lent_moves.specs.Looks.{ownNow, lockPlace, saidNow, registersNow, instrNow, wordPlace, wordNow, entryPlace, answerNow, sumNow, restNow};
+ghost use Rattle.lent_moves.specs.Looks.{ownNow, lockPlace, saidNow, registersNow, instrNow, wordPlace, wordNow, entryPlace, answerNow, sumNow, differenceNow};
 use cells::codes;
 use cells::worker::LOCK;
 use cells::worker::NEW;
@@ -98,9 +98,9 @@ pub fn sum(s: &[u32], w: usize, i: Instr) -> u32
     std::num::wrapping_add_u32(x, y)
 }
 
-pub fn rest(s: &[u32], w: usize, i: Instr) -> u32
+pub fn difference(s: &[u32], w: usize, i: Instr) -> u32
     requires { ⌜ (numbers ≤ length (now s)) × (w < workers) ⌝ }
-    ensures { λ r. ⌜ r ≡ restNow (now (s .entry)) w i ⌝ }
+    ensures { λ r. ⌜ r ≡ differenceNow (now (s .entry)) w i ⌝ }
 {
     let x = cells::get_register(s, w, i.a);
     let y = cells::get_register(s, w, i.b);

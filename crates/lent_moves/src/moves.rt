@@ -5,7 +5,7 @@ ghost use Prim.Native.Nat.{_+_, _%_, _^_, _≤_, _<_};
 ghost use lib.ListN.{length};
 ghost use Rattle.parts.specs.Numbers.{workers};
 ghost use Rattle.cells.specs.Layout.{numbers, runNow};
-ghost use Rattle.lent_moves.specs.Moves.{steppedTo, toGrab, toLookAgain, toReadMark, cleared, started, passed, went, halted, holding, placeAfter, logged, loaded, stored, finished};
+ghost use Rattle.lent_moves.specs.Moves.{steppedTo, toGrab, toLookAgain, toReadMark, cleared, started, passed, went, toMark, holding, placeAfter, logged, loaded, toSwap, finished};
 use cells::codes;
 use cells::worker::COUNT;
 use cells::worker::FINISHED;
@@ -113,9 +113,9 @@ pub fn go(s: &mut [u32], w: usize, a: u8, x: u32)
 }
 
 // On to Mark, with the halt's answer.
-pub fn halt(s: &mut [u32], w: usize, said: bool)
+pub fn to_mark(s: &mut [u32], w: usize, said: bool)
     requires { ⌜ (numbers ≤ length (now s)) × (w < workers) ⌝ }
-    ensures { λ _. ⌜ now (s .exit) ≡ halted (now (s .entry)) w said ⌝ }
+    ensures { λ _. ⌜ now (s .exit) ≡ toMark (now (s .entry)) w said ⌝ }
 {
     let new = codes::flag_number(said);
     step_to(s, w, MARK);
@@ -161,9 +161,9 @@ pub fn load(s: &mut [u32], w: usize, a: u8, x: u32)
 }
 
 // A log entry passed, and on to Swap with what it holds and the word's new value.
-pub fn store(s: &mut [u32], w: usize, held: Reading, new: u32)
+pub fn to_swap(s: &mut [u32], w: usize, held: Reading, new: u32)
     requires { ⌜ (numbers ≤ length (now s)) × (w < workers) ⌝ }
-    ensures { λ _. ⌜ now (s .exit) ≡ stored (now (s .entry)) w held new ⌝ }
+    ensures { λ _. ⌜ now (s .exit) ≡ toSwap (now (s .entry)) w held new ⌝ }
 {
     let place = place_after(s, w);
     hold(s, w, SWAP, held);

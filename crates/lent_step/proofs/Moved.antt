@@ -29,7 +29,7 @@ use Rattle.cells.specs.Layout.{numbers, workerUsed, unpack, rowOf, numberAt, ru
 use Rattle.cells.proofs.Back.{byte-back, flag-back, answer-back, lock-back}
 use Rattle.cells.proofs.Row.{Row, worker-is, row-none, row-put}
 use Rattle.cells.proofs.Unpack.{Says}
-use Rattle.lent_moves.specs.Moves.{steppedTo, toGrab, toLookAgain, toReadMark, cleared, started, passed, went, halted, holding, touched, placeAfter, logged, loaded, stored, toRelease, finished}
+use Rattle.lent_moves.specs.Moves.{steppedTo, toGrab, toLookAgain, toReadMark, cleared, started, passed, went, toMark, holding, toCommit, placeAfter, logged, loaded, toSwap, toRelease, finished}
 use Rattle.lent_moves.specs.Looks.{saidNow}
 
 -- from the numbers s, the numbers t say: worker w made a step and is in the state q
@@ -164,8 +164,8 @@ module _ (s : List ℕ) (w : ℕ) (h : numbers ≤ length s) (b : w < workers) w
       refl refl refl
       (λ i. UnderWay (Point.Run (runWith r (byte-again (r .next + 1 + 0) i) (r .place) (withRegister (r .registers) a x)) Read))
 
-  pub moved-halt : (said : Bool) → Moved s w (halted s w said) (UnderWay (Point.Run r (Mark said)))
-  unfolding halted runNow stateIn
+  pub moved-halt : (said : Bool) → Moved s w (toMark s w said) (UnderWay (Point.Run r (Mark said)))
+  unfolding toMark runNow stateIn
   moved-halt said =
       by-row s _ w _ _ b (put _ _ atNew (flagNumber said) (omega arith) (to markTag)) refl refl refl
       (λ i. UnderWay (Point.Run r (Mark (flag-back said i))))
@@ -177,7 +177,7 @@ module _ (s : List ℕ) (w : ℕ) (h : numbers ≤ length s) (b : w < workers) w
   unfolding holding
   row-held tag x = put _ _ atCount _ (omega arith) (put _ _ atValue _ (omega arith) (to tag))
 
-  pub moved-touch : (x : Reading) → Moved s w (touched s w x) (UnderWay (Point.Run r (Commit x)))
+  pub moved-touch : (x : Reading) → Moved s w (toCommit s w x) (UnderWay (Point.Run r (Commit x)))
   unfolding runNow stateIn
   moved-touch x = by-row s _ w _ _ b (row-held _ x) refl refl refl refl
 
@@ -202,8 +202,8 @@ module _ (s : List ℕ) (w : ℕ) (h : numbers ≤ length s) (b : w < workers) w
       refl refl refl
       (λ i. UnderWay (Point.Run (runWith r (byte-again (r .next + 1 + 0) i) (byte-again (r .place + 1) i) (withRegister (r .registers) a x)) Read))
 
-  pub moved-store : (held : Reading) (new : ℕ) → Moved s w (stored s w held new) (UnderWay (Point.Run (loggedOf r) (Swap held new)))
-  unfolding stored runNow stateIn
+  pub moved-store : (held : Reading) (new : ℕ) → Moved s w (toSwap s w held new) (UnderWay (Point.Run (loggedOf r) (Swap held new)))
+  unfolding toSwap runNow stateIn
   moved-store held new =
       by-row s _ w _ _ b (put _ _ atNew new (omega arith) (put _ _ atPlace _ (omega arith) (row-held swapTag held))) refl refl refl
       (λ i. UnderWay (Point.Run (runWith r (r .next) (byte-again (r .place + 1) i) (r .registers)) (Swap held new)))

@@ -56,8 +56,8 @@ use Rattle.cells.proofs.Pieces.{length-put, pieces-get}
 use Rattle.cells.proofs.Row.{worker-is}
 use Rattle.cells.proofs.Unpack.{Says, Puts, unpack-lock, unpack-word, unpack-sheet, unpack-entry}
 use Rattle.lent_moves.specs.Moves.{toGrab, started, finished}
-use Rattle.lent_moves.specs.Looks.{ownNow, lockPlace, lockNow, saidNow, registersNow, instrNow, wordPlace, wordNow, entryPlace, entryNow, sheetNow, answerNow, sumNow, restNow}
-use Rattle.lent_step.specs.Points.{looked, lookNumbers, grabNumbers, lookAgainNumbers, ranOwn, ranSeen, markRead, readMarkNumbers, firstNumbers, readNumbers, followNumbers, entryFilled, committed, commitNumbers, swapNumbers, markNumbers, releaseNumbers, onwardNumbers, stepNumbers}
+use Rattle.lent_moves.specs.Looks.{ownNow, lockPlace, lockNow, saidNow, registersNow, instrNow, wordPlace, wordNow, entryPlace, entryNow, sheetNow, answerNow, sumNow, differenceNow}
+use Rattle.lent_step.specs.Points.{looked, lookNumbers, grabNumbers, lookAgainNumbers, startedOwn, startedSeen, markRead, readMarkNumbers, firstNumbers, readNumbers, followNumbers, entryFilled, committed, commitNumbers, swapNumbers, markNumbers, releaseNumbers, onwardNumbers, stepNumbers}
 use Rattle.lent_step.proofs.Moved.{Moved, moved-grab, moved-again, moved-seen, moved-start, moved-pass, moved-go, moved-halt, moved-touch, moved-log, moved-load, moved-store, moved-release, moved-finish}
 use Rattle.lent_step.proofs.Put.{movedTo, put-alone, put-lock, put-word, put-entry, put-done}
 
@@ -241,17 +241,17 @@ module _ (s : List ℕ) (w : ℕ) (h : numbers ≤ length s) (b : w < workers) w
       go Free f = moved-pick s w (eqb (l .turn) lastTurn) _ _ _ _ (moved-finish s w h b _) (moved-grab s w h b _)
       go (By x) f = moved-start s w h b x (l .turn) f
 
-  moved-own : Moved s w (ranOwn s w) (UnderWay (Point.Run (startOf (ownNow s w) (numberAt s w atTurn)) Read))
-  unfolding ranOwn
+  moved-own : Moved s w (startedOwn s w) (UnderWay (Point.Run (startOf (ownNow s w) (numberAt s w atTurn)) Read))
+  unfolding startedOwn
   moved-own = moved-start s w h b _ _ (own-byte s w b)
 
   moved-mark : (done : Bool) (l : LockWord) → HolderFits (l .holder) → Moved s w (markRead s w done l) (markState done l (ownNow s w) (numberAt s w atTurn))
-  unfolding markRead ranSeen
+  unfolding markRead startedSeen
   moved-mark done l f = moved-pick s w done _ _ _ _ moved-own (go (l .holder) f)
     where
       go :
           (k : Holder) → HolderFits k →
-          Moved s w (onHolder k (finished s w NotTaken) (λ x. pick (eqb x (ownNow s w)) (ranOwn s w) (started s w x (l .turn))))
+          Moved s w (onHolder k (finished s w NotTaken) (λ x. pick (eqb x (ownNow s w)) (startedOwn s w) (started s w x (l .turn))))
           (onHolder k (Finished NotTaken)
           (λ x.
           pick (eqb x (ownNow s w)) (UnderWay (Point.Run (startOf (ownNow s w) (numberAt s w atTurn)) Read))

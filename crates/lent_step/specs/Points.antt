@@ -26,8 +26,8 @@ use Rattle.engine.specs.Step.{instrAt, entryAt}
 use Rattle.engine.specs.declared.Sheet.{Sheet}
 use Rattle.cells.specs.Codes.{flagOf, atTag, atTurn, atNew, lookTag, grabTag, lookAgainTag, readMarkTag, readTag, commitTag, swapTag, markTag}
 use Rattle.cells.specs.Layout.{unpack, numberAt, runNow, readNow, seenNow, putLock, putWord, putSheet, putEntry}
-use Rattle.lent_moves.specs.Looks.{ownNow, lockPlace, lockNow, saidNow, registersNow, instrNow, wordPlace, wordNow, entryPlace, entryNow, sheetNow, sumNow, restNow, answerNow}
-use Rattle.lent_moves.specs.Moves.{toGrab, toLookAgain, toReadMark, started, passed, went, halted, touched, logged, loaded, stored, toRelease, finished}
+use Rattle.lent_moves.specs.Looks.{ownNow, lockPlace, lockNow, saidNow, registersNow, instrNow, wordPlace, wordNow, entryPlace, entryNow, sheetNow, sumNow, differenceNow, answerNow}
+use Rattle.lent_moves.specs.Moves.{toGrab, toLookAgain, toReadMark, started, passed, went, toMark, toCommit, logged, loaded, toSwap, toRelease, finished}
 
 -- 1. Look, by the lock word that it finds
 unfoldable pub looked : List ℕ → ℕ → LockWord → List ℕ
@@ -48,31 +48,31 @@ unfoldable pub lookAgainNumbers : List ℕ → ℕ → List ℕ
 lookAgainNumbers s w = toReadMark s w (lockNow s w)
 
 -- 4. Read own done mark, by the mark and the lock word that Look again saw
-unfoldable pub ranOwn : List ℕ → ℕ → List ℕ
-ranOwn s w = started s w (ownNow s w) (numberAt s w atTurn)
+unfoldable pub startedOwn : List ℕ → ℕ → List ℕ
+startedOwn s w = started s w (ownNow s w) (numberAt s w atTurn)
 
 -- not marked, by the own sheet
-unfoldable pub ranSeen : List ℕ → ℕ → LockWord → ℕ → List ℕ
-ranSeen s w l own =
-    onHolder (l .holder) (finished s w NotTaken) (λ sheet. pick (eqb sheet own) (ranOwn s w) (started s w sheet (l .turn)))
+unfoldable pub startedSeen : List ℕ → ℕ → LockWord → ℕ → List ℕ
+startedSeen s w l own =
+    onHolder (l .holder) (finished s w NotTaken) (λ sheet. pick (eqb sheet own) (startedOwn s w) (started s w sheet (l .turn)))
 
 unfoldable pub markRead : List ℕ → ℕ → Bool → LockWord → List ℕ
-markRead s w done l = pick done (ranOwn s w) (ranSeen s w l (ownNow s w))
+markRead s w done l = pick done (startedOwn s w) (startedSeen s w l (ownNow s w))
 
 unfoldable pub readMarkNumbers : List ℕ → ℕ → List ℕ
 readMarkNumbers s w = markRead s w (sheetNow s (ownNow s w) .done) (seenNow s w)
 
--- 5. Run: the first step of instruction i
+-- 5. Run: the first step of instruction i; no job that was checked has an op above 7
 unfoldable pub firstNumbers : List ℕ → ℕ → Instr → List ℕ
 firstNumbers s w i =
-    pick (eqb (i .op) 0) (halted s w (eqb (i .a) 1))
+    pick (eqb (i .op) 0) (toMark s w (eqb (i .a) 1))
     (pick (eqb (i .op) 1) (went s w (i .a) (i .b + 256 * i .c))
-    (pick (eqb (i .op) 2) (touched s w (readingOf (wordNow s i)))
-    (pick (eqb (i .op) 3) (touched s w (readingOf (wordNow s i)))
-    (pick (eqb (i .op) 4) (touched s w (readingOf (wordNow s i)))
+    (pick (eqb (i .op) 2) (toCommit s w (readingOf (wordNow s i)))
+    (pick (eqb (i .op) 3) (toCommit s w (readingOf (wordNow s i)))
+    (pick (eqb (i .op) 4) (toCommit s w (readingOf (wordNow s i)))
     (pick (eqb (i .op) 5) (went s w (i .a) (sumNow s w i))
-    (pick (eqb (i .op) 6) (went s w (i .a) (restNow s w i))
-    (pick (eqb (i .op) 7) (passed s w (overOf i (registersNow s w))) (halted s w false))))))))
+    (pick (eqb (i .op) 6) (went s w (i .a) (differenceNow s w i))
+    (pick (eqb (i .op) 7) (passed s w (overOf i (registersNow s w))) (toMark s w false))))))))
 
 unfoldable pub readNumbers : List ℕ → ℕ → List ℕ
 readNumbers s w = firstNumbers s w (instrNow s w)
@@ -81,9 +81,9 @@ readNumbers s w = firstNumbers s w (instrNow s w)
 unfoldable pub followNumbers : List ℕ → ℕ → Instr → Reading → List ℕ
 followNumbers s w i held =
     pick (eqb (i .op) 2) (loaded s w (i .a) (held .value))
-    (pick (eqb (i .op) 3) (stored s w held (registerOf (registersNow s w) (i .a)))
+    (pick (eqb (i .op) 3) (toSwap s w held (registerOf (registersNow s w) (i .a)))
     (pick (eqb (registerOf (registersNow s w) (i .a)) (held .value))
-    (stored s w held (registerOf (registersNow s w) (i .b))) (logged s w)))
+    (toSwap s w held (registerOf (registersNow s w) (i .b))) (logged s w)))
 
 -- commit: an entry that is empty takes what was read; either way the worker goes on with what the entry holds
 unfoldable pub entryFilled : List ℕ → ℕ → Entry → Reading → List ℕ
@@ -122,6 +122,6 @@ onwardNumbers s w tag =
     (pick (eqb tag swapTag) (swapNumbers s w)
     (pick (eqb tag markTag) (markNumbers s w) (releaseNumbers s w))))))))
 
--- "A refusal returns .. the state as it came"
+-- the whole call: refused, "the state as it came"
 unfoldable pub stepNumbers : List ℕ → ℕ → List ℕ
 stepNumbers s w = onTold (stepTold (unpack s) w) (onwardNumbers s w (numberAt s w atTag)) (λ r. s)

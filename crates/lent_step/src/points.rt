@@ -1,12 +1,12 @@
 // A step at each point, straight on the numbers: what the point looks at is read, and what it changes is written. Each is the
-// definition of specs/Points.antt that it names, and tells that it was accepted.
+// definition of specs/Points.antt that it names; the nine points tell that the step was accepted.
 ghost use mathlib.Core.Path.{_≡_};
 ghost use Prim.Native.Nat.{_≤_, _<_};
 ghost use lib.ListN.{length};
 ghost use Rattle.parts.specs.Numbers.{workers, entries};
 ghost use Rattle.parts.specs.declared.Told.the-variants.{Accepted};
 ghost use Rattle.cells.specs.Layout.{numbers};
-ghost use Rattle.lent_step.specs.Points.{looked, lookNumbers, grabNumbers, lookAgainNumbers, ranOwn, ranSeen, markRead, readMarkNumbers, firstNumbers, readNumbers, followNumbers, entryFilled, committed, commitNumbers, swapNumbers, markNumbers, releaseNumbers};
+ghost use Rattle.lent_step.specs.Points.{looked, lookNumbers, grabNumbers, lookAgainNumbers, startedOwn, startedSeen, markRead, readMarkNumbers, firstNumbers, readNumbers, followNumbers, entryFilled, committed, commitNumbers, swapNumbers, markNumbers, releaseNumbers};
 use cells::worker::COMMIT;
 use cells::worker::NEW;
 use cells::worker::RELEASE;
@@ -80,9 +80,9 @@ pub fn look_again(s: &mut [u32], w: usize) -> Told
     Told::Accepted
 }
 
-fn run_own(s: &mut [u32], w: usize)
+fn start_own(s: &mut [u32], w: usize)
     requires { ⌜ (numbers ≤ length (now s)) × (w < workers) ⌝ }
-    ensures { λ _. ⌜ now (s .exit) ≡ ranOwn (now (s .entry)) w ⌝ }
+    ensures { λ _. ⌜ now (s .exit) ≡ startedOwn (now (s .entry)) w ⌝ }
 {
     let own = looks::own(s, w);
     let won = cells::get_number(s, w, WON);
@@ -90,16 +90,16 @@ fn run_own(s: &mut [u32], w: usize)
 }
 
 // What follows of the lock word that Look again saw, where the own sheet is not marked.
-fn run_seen(s: &mut [u32], w: usize, l: LockWord, own: u8)
+fn start_seen(s: &mut [u32], w: usize, l: LockWord, own: u8)
     requires { ⌜ (numbers ≤ length (now s)) × (w < workers) ⌝ }
-    ensures { λ _. ⌜ now (s .exit) ≡ ranSeen (now (s .entry)) w l own ⌝ }
+    ensures { λ _. ⌜ now (s .exit) ≡ startedSeen (now (s .entry)) w l own ⌝ }
 {
     let h = l.holder;
     match h {
         Holder::Free => moves::finish(s, w, Answer::NotTaken),
         Holder::By(sheet) => {
             if sheet == own {
-                run_own(s, w);
+                start_own(s, w);
                 return;
             }
             moves::start(s, w, sheet, l.turn)
@@ -112,11 +112,11 @@ fn mark_read(s: &mut [u32], w: usize, done: bool, l: LockWord)
     ensures { λ _. ⌜ now (s .exit) ≡ markRead (now (s .entry)) w done l ⌝ }
 {
     if done {
-        run_own(s, w);
+        start_own(s, w);
         return;
     }
     let own = looks::own(s, w);
-    run_seen(s, w, l, own);
+    start_seen(s, w, l, own);
 }
 
 pub fn read_mark(s: &mut [u32], w: usize) -> Told
@@ -139,7 +139,7 @@ fn first(s: &mut [u32], w: usize, i: Instr)
 {
     let op = i.op;
     match op {
-        0 => moves::halt(s, w, i.a == 1),
+        0 => moves::to_mark(s, w, i.a == 1),
         1 => moves::go(s, w, i.a, looks::constant(i)),
         2 => {
             let r = looks::reading(s, i);
@@ -158,14 +158,14 @@ fn first(s: &mut [u32], w: usize, i: Instr)
             moves::go(s, w, i.a, x)
         }
         6 => {
-            let x = looks::rest(s, w, i);
+            let x = looks::difference(s, w, i);
             moves::go(s, w, i.a, x)
         }
         7 => {
             let n = looks::over(s, w, i);
             moves::pass(s, w, n)
         }
-        8..=255 => moves::halt(s, w, false),
+        8..=255 => moves::to_mark(s, w, false),
     }
 }
 
@@ -189,13 +189,13 @@ fn follow(s: &mut [u32], w: usize, i: Instr, held: Reading)
         2 => moves::load(s, w, i.a, held.value),
         3 => {
             let x = cells::get_register(s, w, i.a);
-            moves::store(s, w, held, x)
+            moves::to_swap(s, w, held, x)
         }
         _ => {
             let x = cells::get_register(s, w, i.a);
             if x == held.value {
                 let y = cells::get_register(s, w, i.b);
-                moves::store(s, w, held, y);
+                moves::to_swap(s, w, held, y);
                 return;
             }
             moves::log(s, w)

@@ -1,4 +1,4 @@
--- "every index in its range": in a state that the calls gave, a remainder that keeps an index in its range changes nothing.
+-- every index in its range: in a state that the calls gave, a remainder that keeps an index in its range changes nothing.
 use Prim.Native.Nat.{ℕ, _+_, _<_}
 use native.Mathlib.Omega.{arith}
 use mathlib.Core.Path.{_≡_, subst}

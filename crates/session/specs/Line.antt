@@ -26,7 +26,7 @@ hash = 35
 abbrev pub dash : ℕ
 dash = 45
 
--- "bytes .. 1 to 512 bytes"; "N at most 512"
+-- bytes .. 1 to 512 bytes; N at most 512
 abbrev pub mostBytes : ℕ
 mostBytes = 512
 
@@ -39,7 +39,7 @@ firstAt x (b ∷ l) = pick (eqb b x) 0 (1 + firstAt x l)
 unfoldable pub pastOf : ℕ → List ℕ → ℕ
 pastOf x l = min (firstAt x l + 1) (length l)
 
--- "Lines end with a newline, the last one perhaps without. Words are separated by single spaces": what comes before the first x,
+-- Lines end with a newline, the last one perhaps without. Words are separated by single spaces: what comes before the first x,
 -- and what comes after it
 unfoldable pub beforeOf : ℕ → List ℕ → List ℕ
 beforeOf x l = take (firstAt x l) l
@@ -62,7 +62,7 @@ abbrev pub onPair : {A : Type 0} → Pair → (ℕ → ℕ → A) → A → A
 onPair (Pair.Is m n) f a = f m n
 onPair Pair.Not f a = a
 
--- the decimal digit b after the number n; "at most 4294967295"
+-- the decimal digit b after the number n; at most 4294967295
 unfoldable pub withDigit : ℕ → ℕ → Number
 withDigit n b =
     pick (ltb b 48) Number.Not
@@ -73,7 +73,7 @@ unfoldable pub digitsFrom : ℕ → List ℕ → Number
 digitsFrom n [] = Number.Is n
 digitsFrom n (b ∷ l) = onNumber (withDigit n b) (λ m. digitsFrom m l) Number.Not
 
--- "a number is one to ten decimal digits, at most 4294967295"
+-- a number is one to ten decimal digits, at most 4294967295
 unfoldable pub numberOf : List ℕ → Number
 numberOf l = pick (ltb (length l) 1) Number.Not (pick (ltb 10 (length l)) Number.Not (digitsFrom 0 l))
 
@@ -82,7 +82,7 @@ unfoldable pub pairOf : List ℕ → Pair
 pairOf l =
     onNumber (numberOf (firstWord l)) (λ m. onNumber (numberOf (afterWord l)) (λ n. Pair.Is m n) Pair.Not) Pair.Not
 
--- "hexadecimal in either case": what a digit stands for; 16 of any other byte
+-- hexadecimal in either case: what a digit stands for; 16 of any other byte
 unfoldable pub hexDigit : ℕ → ℕ
 hexDigit b =
     pick (ltb b 48) 16
@@ -103,7 +103,7 @@ sameOf [] (b ∷ m) = false
 sameOf (a ∷ l) [] = false
 sameOf (a ∷ l) (b ∷ m) = pick (eqb a b) (sameOf l m) false
 
--- "two digits a byte, 1 to 512 bytes, and `-` for none"
+-- two digits a byte, 1 to 512 bytes, and `-` for none
 unfoldable pub isRecord : List ℕ → Bool
 isRecord l =
     pick (sameOf l (dash ∷ [])) true
@@ -151,16 +151,16 @@ lockLine w l = onNumber (numberOf (firstWord l)) (λ k. pick (isRecord (afterWor
 unfoldable pub beginLine : List ℕ → Line
 beginLine l = onNumber (numberOf (firstWord l)) (λ w. lockLine w (afterWord l)) Bad
 
--- `step W` or `step W N`; "1 if not given"
+-- `step W` or `step W N`; 1 if not given
 unfoldable pub stepLine : List ℕ → Line
 stepLine l =
     onNumber (numberOf l) (λ w. Makes (Call.Step w 1)) (onPair (pairOf l) (λ w n. Makes (Call.Step w n)) Bad)
 
--- `show S N`; "N at most 512"
+-- `show S N`; N at most 512
 unfoldable pub showLine : List ℕ → Line
 showLine l = onPair (pairOf l) (λ s n. pick (ltb mostBytes n) Bad (Makes (Call.Show s n))) Bad
 
--- `collect W`, `drop W`, `word I`, `lock I` and `park N`, "N at most 512"
+-- `collect W`, `drop W`, `word I`, `lock I` and `park N`, N at most 512
 unfoldable pub parkLine : ℕ → Line
 parkLine n = pick (ltb mostBytes n) Bad (Makes (Call.Park n))
 
@@ -192,7 +192,7 @@ callOf Show l = showLine l
 callOf Park l = oneLine Park l
 callOf Other l = Bad
 
--- "a line that starts with `#` or is empty is passed over"
+-- a line that starts with `#` or is empty is passed over
 unfoldable pub lineOf : List ℕ → Line
 lineOf l =
     pick (eqb (length l) 0) Passed

@@ -32,35 +32,35 @@ plainOf e told tail = record { engine = e; told = told; tail = tail; bytes = fil
 unfoldable pub quietOf : Outcome → Reply
 quietOf out = plainOf (out .engine) (out .told) Nothing
 
--- "up to N steps .., until one is refused (N may be 0)"; told: "how many were accepted". Here n are left, and `done` were accepted
+-- up to N steps .., until one is refused (N may be 0); told: how many were accepted. Here n are left, and `done` were accepted
 unfoldable pub stepsFrom : ℕ → Engine → ℕ → ℕ → Reply
 stepsFrom zero e w done = plainOf e Accepted (Steps done)
 stepsFrom (suc n) e w done =
     onTold (stepOf e w .told) (stepsFrom n (stepOf e w .engine) w (done + 1)) (λ r. plainOf e (Refused r) (Steps done))
 
--- "answer and steps ..; `0 0` if refused"
+-- answer and steps ..; `0 0` if refused
 unfoldable pub scriptCollect : CollectTold → Engine → Reply
 scriptCollect (CollectTold.Answered answer steps) e = plainOf e Accepted (Answer (answerNumber answer) steps)
 scriptCollect (CollectTold.Refused r) e = plainOf e (Refused r) (Answer 0 0)
 
--- "value count guard; `0 0 0` if refused"
+-- value count guard; `0 0 0` if refused
 unfoldable pub scriptWord : WordTold → Engine → Reply
 scriptWord (WordTold.Is w) e = plainOf e Accepted (Word (w .value) (w .count) (w .guard))
 scriptWord (WordTold.Refused r) e = plainOf e (Refused r) (Word 0 0 0)
 
--- "turn, and the holding sheet or `-`; `0 -` if refused"
+-- turn, and the holding sheet or `-`; `0 -` if refused
 unfoldable pub scriptLock : LockTold → Engine → Reply
 scriptLock (LockTold.Is l) e = plainOf e Accepted (Lock (l .turn) (l .holder))
 scriptLock (LockTold.Refused r) e = plainOf e (Refused r) (Lock 0 Free)
 
--- "into N bytes of A5": the bytes that are lent, and those that are not
+-- into N bytes of A5: the bytes that are lent, and those that are not
 abbrev pub lentBytes : ℕ → List ℕ
 lentBytes n = take (lentOf n) (filledWith 165)
 
 abbrev pub keptBytes : ℕ → List ℕ
 keptBytes n = drop (lentOf n) (filledWith 165)
 
--- "how many were written, and all N bytes"; a refused writer wrote none
+-- how many were written, and all N bytes; a refused writer wrote none
 unfoldable pub scriptWrite : WriteTold → Engine → ℕ → List ℕ → Reply
 scriptWrite (WriteTold.Wrote k) e n bytes = record { engine = e; told = Accepted; tail = Bytes k n; bytes = bytes }
 scriptWrite (WriteTold.Refused r) e n bytes = record { engine = e; told = Refused r; tail = Bytes 0 n; bytes = bytes }
@@ -71,7 +71,7 @@ scriptShow e s n = scriptWrite (showOf e s (lentOf n)) e n (shownOf e s (lentByt
 unfoldable pub scriptPark : Engine → ℕ → Reply
 scriptPark e n = scriptWrite (parkOf e (lentOf n)) e n (parkedOf e (lentBytes n) ++ keptBytes n)
 
--- "bytes are hexadecimal": the record of a setup is its line's second word, that of a begin the fourth
+-- bytes are hexadecimal: the record of a setup is its line's second word, that of a begin the fourth
 abbrev pub setupRecordIn : List ℕ → List ℕ
 setupRecordIn text = recordIn (afterWord text)
 

@@ -1,4 +1,4 @@
--- What is written of a call: "one line, `LINE refusal place ...` in decimal with single spaces".
+-- What is written of a call: one line, `LINE refusal place ...` in decimal with single spaces.
 use Prim.Native.Nat.{ℕ, zero, suc, _+_, _*_, _/_, _%_, _≤_, min}
 use mathlib.Core.Path.{_≡_}
 use mathlib.Core.List.{List, [], _∷_, _++_}
@@ -35,7 +35,7 @@ numberText n = space ∷ decimalOf n
 unfoldable pub pairText : ℕ → ℕ → List ℕ
 pairText m n = numberText m ++ numberText n
 
--- bytes "in lower-case hex (`-` for none)"
+-- bytes in lower-case hex (`-` for none)
 unfoldable pub glyphOf : ℕ → ℕ
 glyphOf d = pick (ltb d 10) (48 + d) (87 + d)
 
@@ -46,18 +46,18 @@ hexText (b ∷ l) = glyphOf (b / 16) ∷ glyphOf (b % 16) ∷ hexText l
 unfoldable pub bytesText : List ℕ → List ℕ
 bytesText l = space ∷ pick (eqb (length l) 0) (dash ∷ []) (hexText l)
 
--- "`LINE refusal place ...`"; "accepted is `0 0`"
+-- `LINE refusal place ...`; accepted is `0 0`
 unfoldable pub refusalText : Refusal → List ℕ
 refusalText r = pairText (refusalNumber r) (refusalPlace r)
 
 unfoldable pub toldText : Told → List ℕ
 toldText told = onTold told (pairText 0 0) (λ r. refusalText r)
 
--- "the holding sheet or `-`"
+-- the holding sheet or `-`
 unfoldable pub holderText : Holder → List ℕ
 holderText h = onHolder h (space ∷ dash ∷ []) (λ s. numberText s)
 
--- "N at most 512"
+-- N at most 512
 abbrev pub lentOf : ℕ → ℕ
 lentOf n = min n mostBytes
 
@@ -68,7 +68,7 @@ mostTail = 22 + 2 * mostBytes
 abbrev pub mostReply : ℕ
 mostReply = 63 + mostTail
 
--- what is told after the refusal and its place. Of show and park: "how many were written, and all N bytes"
+-- what is told after the refusal and its place. Of show and park: how many were written, and all N bytes
 unfoldable pub tailText : Tail → List ℕ → List ℕ
 tailText Nothing bytes = []
 tailText (Steps n) bytes = numberText n
@@ -80,7 +80,7 @@ tailText (Bytes written n) bytes = numberText written ++ bytesText (take (lentOf
 abbrev pub questionMark : ℕ
 questionMark = 63
 
--- the line of a call, and of a line that "isn't of this form": "`LINE ?`"
+-- the line of a call, and of a line that isn't of this form: `LINE ?`
 unfoldable pub replyText : ℕ → Told → Tail → List ℕ → List ℕ
 replyText line told tail bytes = (decimalOf line ++ toldText told) ++ (tailText tail bytes ++ (newline ∷ []))
 

@@ -18,7 +18,7 @@ use Rattle.session.specs.declared.walk.Said.{Said}
 abbrev pub textOf : ℕ → Reply → List ℕ
 textOf number reply = replyText number (reply .told) (reply .tail) (reply .bytes)
 
--- "For each call it writes one line"; "A line that isn't of this form writes `LINE ?` and ends the run". The text of line number n,
+-- For each call it writes one line; A line that isn't of this form writes `LINE ?` and ends the run. The text of line number n,
 -- with these bytes, on state e
 unfoldable pub saidOf : Line → ℕ → Engine → List ℕ → List ℕ
 saidOf Passed n e text = []

@@ -1,4 +1,4 @@
--- "What park writes, setup takes", and it gives the same guards, values and turns.
+-- What park writes, setup takes, and it gives the same guards, values and turns.
 use Prim.Native.Nat.{ℕ, _+_, _≤_, _<_}
 use native.Mathlib.Omega.{arith}
 use mathlib.Core.Path.{_≡_, refl, _∙_, sym, ap}

@@ -1,4 +1,4 @@
--- "A job record that begin takes is what show writes for its sheet, byte for byte."
+-- A job record that begin takes is what show writes for its sheet, byte for byte.
 use Prim.Native.Nat.{ℕ, _+_, _*_, _≤_, _<_}
 use native.Mathlib.Omega.{arith}
 use mathlib.Core.Path.{_≡_, refl, _∙_, sym, ap, subst}

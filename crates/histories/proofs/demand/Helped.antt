@@ -1,5 +1,5 @@
--- "which any other worker completes within 97 steps": a begin on a held lock is accepted of every idle worker with every valid
--- job, and the steps after it are those of the theory's lone helper.
+-- "any worker that then begins a valid job there and is stepped alone completes the last one within 97 steps": a begin on a held lock is
+-- accepted of every idle worker with every valid job, and the steps after it are those of the theory's lone helper.
 use Prim.Native.Nat.{ℕ, zero, suc, _<_}
 use mathlib.Core.Path.{_≡_, refl, sym, ap, _∙_, subst}
 use mathlib.Core.List.{List, _∷_}

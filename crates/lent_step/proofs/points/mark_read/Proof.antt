@@ -17,4 +17,4 @@ mark-read-spec =
     (λ c κs. search needs)
     (λ c κs. search needs)
     (λ c. search needs)
-    (λ c. c .before .before .run-seen .ensures ∙ simp (c .before .before .before .before .own .ensures) (search laws)))
+    (λ c. c .before .before .start-seen .ensures ∙ simp (c .before .before .before .before .own .ensures) (search laws)))

@@ -1,13 +1,13 @@
 -- By the lock word that was seen.
 use borrow.Author.Needs.{needs}
 use Rattle.parts.proofs.Laws.{laws}
-use Rattle.lent_step.specs.Points.{ranSeen}
-use Rattle.lent_step.proofs.points.run_seen.Statement.{statement}
-use Rattle.lent_step.proofs.points.run_seen.Tie as tie
+use Rattle.lent_step.specs.Points.{startedSeen}
+use Rattle.lent_step.proofs.points.start_seen.Statement.{statement}
+use Rattle.lent_step.proofs.points.start_seen.Tie as tie
 
-pub run-seen-spec : {M : Type 1} → statement M
-unfolding ranSeen
-run-seen-spec =
+pub start-seen-spec : {M : Type 1} → statement M
+unfolding startedSeen
+start-seen-spec =
     tie.close
     (tie.spec
     (λ c. search needs)
