@@ -17,7 +17,8 @@ use Rattle.records.specs.Bytes.{lengthTold, kindField}
 use Rattle.records.specs.Job.{jobKind, jobOf, noJobLength, codeTold, jobTold}
 use Rattle.records.proofs.Fours.{instrs-length}
 use Rattle.engine.specs.State.{lockCount, freeSheet}
-use Rattle.engine.specs.Calls.{beginOrder, beginTold, Begins}
+use Rattle.engine.specs.Calls.{beginOrder, beginTold}
+use Rattle.engine.specs.Inner.{Begins}
 use Rattle.engine.specs.declared.Engine.{Engine}
 
 pub begins : (e : Engine) (w l : ℕ) (rec : List ℕ) → beginTold e w l rec ≡ Accepted → Begins e w l rec

@@ -1,6 +1,5 @@
 -- The nine calls: each call's order of refusals, as document 01 lists it, and what an accepted call does and tells.
-use Prim.Native.Nat.{ℕ, _+_, _*_, _<_}
-use mathlib.Core.Path.{_≡_}
+use Prim.Native.Nat.{ℕ, _+_, _*_}
 use mathlib.Core.Bool.{Bool, true, false}
 use mathlib.Core.List.{List, [], _∷_, map}
 use lib.Dec.{eqb, leb, ltb}
@@ -68,15 +67,6 @@ beginOrder e w l rec = refuseIf (leb workers w) NoWorker ∷ beginByState (worke
 
 unfoldable pub beginTold : Engine → ℕ → ℕ → List ℕ → Told
 beginTold e w l rec = firstOf (beginOrder e w l rec)
-
--- what a begin finds that is accepted
-pub record Begins (e : Engine) (w l : ℕ) (rec : List ℕ) : Type 0 where
-  pub worker : w < workers
-  pub idle : beginByState (workerAt e w) ≡ Accepted
-  pub lock : l < lockCount e
-  pub job : jobTold rec l (guardsOf (wordsOf e)) ≡ Accepted
-  pub worn : wornOf (lockAt e l) ≡ false
-  pub sheet : freeSheet e < sheets
 
 -- "Begin (worker, lock, job record) takes a sheet, copies the job, empties the log, clears the mark."
 unfoldable pub begunOf : Engine → ℕ → ℕ → List ℕ → ℕ → Engine

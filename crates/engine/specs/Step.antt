@@ -1,8 +1,8 @@
 -- A step of the whole state: the pieces that it can touch are read out, the step is done to them, and they are put back.
-use Prim.Native.Nat.{ℕ, _+_, _%_, _<_}
+use Prim.Native.Nat.{ℕ, _+_, _%_}
 use lib.ListN.{getD, set}
 use Rattle.parts.specs.Instr.{wordOf}
-use Rattle.parts.specs.Numbers.{workers, mostLocks, mostWords, sheets, instructions, entries}
+use Rattle.parts.specs.Numbers.{mostLocks, mostWords, sheets, instructions}
 use Rattle.parts.specs.Parts.{instr0, entry0}
 use Rattle.parts.specs.declared.Instr.{Instr}
 use Rattle.steps.specs.Places.{spotOf}
@@ -40,15 +40,6 @@ spotAt e w p = spotOf p (workerAt e w .own)
 
 unfoldable pub placesOf : Engine → ℕ → Point → Places
 placesOf e w p = placedOf w (workerAt e w) (spotAt e w p) (getD (e .program) (instrAt (spotAt e w p)) instr0)
-
--- every place is one of its array
-pub record Within (at : Places) : Type 0 where
-  pub worker : at .worker < workers
-  pub lock : at .lock < mostLocks
-  pub word : at .word < mostWords
-  pub entry : at .entry < entries
-  pub instr : at .instr < entries
-  pub sheet : at .sheet < sheets
 
 -- the pieces at these places
 unfoldable pub viewAt : Engine → Places → View

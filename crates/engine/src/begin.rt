@@ -7,7 +7,8 @@ ghost use Rattle.parts.specs.Numbers.{workers, mostLocks, sheets, instructions}
 ghost use Rattle.parts.specs.Told.{firstOf};
 ghost use Rattle.records.specs.Job.{jobTold};
 ghost use Rattle.engine.specs.State.{wordsOf};
-ghost use Rattle.engine.specs.Calls.{roomOrder, lockOrder, beginTold, Begins, begunOf, takenOf, beginOf};
+ghost use Rattle.engine.specs.Calls.{roomOrder, lockOrder, beginTold, begunOf, takenOf, beginOf};
+ghost use Rattle.engine.specs.Inner.{Begins};
 use crate::Engine;
 use crate::Outcome;
 use crate::Sheet;

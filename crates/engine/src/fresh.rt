@@ -1,7 +1,7 @@
 // Setup: a fresh state from a setup record.
 ghost use mathlib.Core.Path.{_≡_};
 ghost use Rattle.engine.specs.Calls.{freshOf, setupOf};
-ghost use Rattle.records.specs.Setup.{Sized};
+ghost use Rattle.records.specs.Inner.{Sized};
 use crate::Engine;
 use crate::Outcome;
 use parts::LOCKS;

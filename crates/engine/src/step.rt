@@ -2,7 +2,8 @@
 ghost use mathlib.Core.Path.{_≡_};
 ghost use Prim.Native.Nat.{_<_};
 ghost use Rattle.parts.specs.Numbers.{workers, entries};
-ghost use Rattle.engine.specs.Step.{instrAt, entryAt, placedOf, placesOf, viewAt, putAt, steppedOf, Within};
+ghost use Rattle.engine.specs.Step.{instrAt, entryAt, placedOf, placesOf, viewAt, putAt, steppedOf};
+ghost use Rattle.engine.specs.Inner.{Within};
 ghost use Rattle.engine.specs.Calls.{stepOf};
 use crate::Engine;
 use crate::Outcome;

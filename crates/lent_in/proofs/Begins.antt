@@ -20,7 +20,8 @@ use Rattle.records.proofs.Fours.{instrs-length}
 use Rattle.records.proofs.Laws.{part-end}
 use Rattle.steps.specs.Worker.{beganOf}
 use Rattle.steps.specs.declared.Worker.{Worker}
-use Rattle.engine.specs.Calls.{beginTold, Begins, begunOf, beginOf}
+use Rattle.engine.specs.Calls.{beginTold, begunOf, beginOf}
+use Rattle.engine.specs.Inner.{Begins}
 use Rattle.engine.proofs.Begins.{begins}
 use Rattle.engine.specs.State.{workerAt, freeSheet, baseOf, withWorker}
 use Rattle.engine.specs.declared.Engine.{Engine}

@@ -23,7 +23,8 @@ use Rattle.steps.specs.Worker.{onState, lookingOf, beganOf}
 use Rattle.steps.specs.declared.State.{State}
 use Rattle.steps.specs.declared.State.the-variants.{Idle, UnderWay, Finished}
 use Rattle.steps.specs.declared.Worker.{Worker}
-use Rattle.engine.specs.Calls.{outcomeOf, freshOf, setupOf, beginTold, Begins, begunOf, takenOf, beginOf}
+use Rattle.engine.specs.Calls.{outcomeOf, freshOf, setupOf, beginTold, begunOf, takenOf, beginOf}
+use Rattle.engine.specs.Inner.{Begins}
 use Rattle.engine.specs.State.{blankOf, workerAt, freeSheet, baseOf, withWorker}
 use Rattle.engine.specs.declared.Engine.{Engine}
 use Rattle.engine.proofs.Begins.{begins, job-size}

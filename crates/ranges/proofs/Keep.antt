@@ -22,7 +22,8 @@ use Rattle.steps.specs.declared.State.the-variants.{UnderWay}
 use Rattle.steps.specs.declared.Worker.{Worker}
 use Rattle.engine.specs.State.{sheet0, blankOf, workerAt, freeSheet, baseOf, withWorker}
 use Rattle.engine.specs.Step.{placesOf, viewAt, putAt, steppedOf}
-use Rattle.engine.specs.Calls.{Begins, outcomeOf, freshOf, setupOf, begunOf, beginTold, beginOf, stepTold, onwardOf, stepOf, collectTold, collectOf, dropTold, dropOf}
+use Rattle.engine.specs.Calls.{outcomeOf, freshOf, setupOf, begunOf, beginTold, beginOf, stepTold, onwardOf, stepOf, collectTold, collectOf, dropTold, dropOf}
+use Rattle.engine.specs.Inner.{Begins}
 use Rattle.engine.specs.declared.Collected.{Collected}
 use Rattle.engine.specs.declared.Engine.{Engine}
 use Rattle.engine.specs.declared.Outcome.{Outcome}

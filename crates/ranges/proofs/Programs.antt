@@ -16,7 +16,8 @@ use Rattle.records.specs.Job.{jobOf}
 use Rattle.steps.specs.declared.View.{View}
 use Rattle.engine.specs.State.{sheet0, freeSheet, baseOf, programLength, programOf}
 use Rattle.engine.specs.Step.{putAt}
-use Rattle.engine.specs.Calls.{Begins, begunOf, beginTold}
+use Rattle.engine.specs.Calls.{begunOf, beginTold}
+use Rattle.engine.specs.Inner.{Begins}
 use Rattle.engine.specs.declared.Engine.{Engine}
 use Rattle.engine.specs.declared.Places.{Places}
 use Rattle.engine.specs.declared.Sheet.{Sheet}

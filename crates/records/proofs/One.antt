@@ -17,7 +17,8 @@ use Rattle.parts.specs.declared.Told.the-variants.{Accepted}
 use Rattle.parts.proofs.Order.{first-all, row-passes, neither, not-isnt}
 use Rattle.records.specs.Bytes.{AllBytes, u32sBytes, kindField, lengthTold, header}
 use Rattle.records.specs.Job.{jobKind, jobOf, jobRecord, noJobLength, codeTold, jobTold}
-use Rattle.records.specs.Setup.{setupKind, locksField, wordsField, guardsField, valuesField, turnsField, setupLength, setupRecord, outside, guardsTold, turnsTold, setupTold, Sized}
+use Rattle.records.specs.Setup.{setupKind, locksField, wordsField, guardsField, valuesField, turnsField, setupLength, setupRecord, outside, guardsTold, turnsTold, setupTold}
+use Rattle.records.specs.Inner.{Sized}
 use Rattle.records.proofs.Fours.{instrs-length, u32s-length, code-of-instrs, bytes-of-u32s}
 use Rattle.records.proofs.Laws.{length-known}
 

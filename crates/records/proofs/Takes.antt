@@ -17,7 +17,8 @@ use Rattle.parts.proofs.Laws.{laws, order}
 use Rattle.parts.proofs.Order.{both-pass, row-passes}
 use Rattle.records.specs.Bytes.{u32sOf, u32sBytes, lengthField, kindField, lengthTold}
 use Rattle.records.specs.Job.{jobKind, jobOf, jobRecord, codeTold, jobTold}
-use Rattle.records.specs.Setup.{locksField, wordsField, guardsField, valuesField, turnsField, setupLength, setupRecord, guardsTold, turnsTold, setupTold, Sized}
+use Rattle.records.specs.Setup.{locksField, wordsField, guardsField, valuesField, turnsField, setupLength, setupRecord, guardsTold, turnsTold, setupTold}
+use Rattle.records.specs.Inner.{Sized}
 use Rattle.records.proofs.Fours.{instrs-of-code, code-length, u32s-of-bytes, bytes-length}
 
 -- every guard is a lock, every turn at most the last

@@ -1,3 +1,4 @@
 pub mod Bytes
 pub mod Job
 pub mod Setup
+pub mod Inner

@@ -1,7 +1,6 @@
 -- "Kind 2, setup. Byte 4: locks L. Byte 5: words W. Then W guard bytes (each below L), W values of 4 bytes, L starting turns of
 -- 4 bytes. Length 6 + 5W + 4L."
-use Prim.Native.Nat.{ℕ, _+_, _*_, _≤_}
-use mathlib.Core.Path.{_≡_}
+use Prim.Native.Nat.{ℕ, _+_, _*_}
 use mathlib.Core.Bool.{Bool}
 use mathlib.Core.List.{List, [], _∷_, _++_}
 use lib.Dec.{leb, ltb}
@@ -79,13 +78,3 @@ setupTold rec =
     refuseIf (ltb (length rec) 6) Length ∷
     sizesTold rec (locksField rec) (wordsField rec) ∷
     [])
-
--- what is known of an accepted setup record: the contracts of the functions that read one ask for it
-pub record Sized (rec : List ℕ) : Type 0 where
-  pub told : lengthTold rec ≡ Accepted
-  pub kind : kindField rec ≡ setupKind
-  pub locks : (1 ≤ locksField rec) × (locksField rec ≤ mostLocks)
-  pub words : (1 ≤ wordsField rec) × (wordsField rec ≤ mostWords)
-  pub size : length rec ≡ setupLength (locksField rec) (wordsField rec)
-  pub guards : guardsTold (guardsField rec) (locksField rec) 6 ≡ Accepted
-  pub turns : turnsTold (turnsField rec) (6 + 5 * wordsField rec) ≡ Accepted

@@ -21,7 +21,8 @@ use Rattle.sheets.proofs.Lowest.{takes-lowest, by-worker}
 use Rattle.steps.specs.Worker.{worker0, lookingOf, beganOf}
 use Rattle.steps.specs.declared.Worker.{Worker}
 use Rattle.engine.specs.State.{inUse, freeSheet, workerAt, programLength, programOf, sheetRecord}
-use Rattle.engine.specs.Calls.{Begins, outcomeOf, begunOf, beginTold, beginOf, showTold, showOf, shownOf}
+use Rattle.engine.specs.Calls.{outcomeOf, begunOf, beginTold, beginOf, showTold, showOf, shownOf}
+use Rattle.engine.specs.Inner.{Begins}
 use Rattle.engine.specs.declared.Engine.{Engine}
 use Rattle.engine.specs.declared.WriteTold.{WriteTold}
 use Rattle.ranges.specs.Good.{Good}

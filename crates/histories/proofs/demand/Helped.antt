@@ -20,7 +20,8 @@ use Rattle.steps.specs.declared.State.the-variants.{Idle, UnderWay, Finished}
 use Rattle.steps.specs.declared.Worker.{Worker}
 use Rattle.engine.specs.State.{workerAt, lockAt, lockCount, wordsOf, freeSheet}
 use Rattle.engine.specs.Step.{steppedOf}
-use Rattle.engine.specs.Calls.{Begins, beginTold, stepTold, stepOf}
+use Rattle.engine.specs.Calls.{beginTold, stepTold, stepOf}
+use Rattle.engine.specs.Inner.{Begins}
 use Rattle.engine.specs.declared.Engine.{Engine}
 use Rattle.engine.specs.declared.Outcome.{Outcome}
 use Rattle.helping.specs.Machine.{Rules, Scene, machineBegun, beginTale, stepAt}

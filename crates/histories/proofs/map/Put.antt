@@ -21,7 +21,8 @@ use Rattle.steps.specs.Worker.{worker0}
 use Rattle.steps.specs.declared.View.{View}
 use Rattle.steps.specs.declared.Worker.{Worker}
 use Rattle.engine.specs.State.{sheet0, baseOf}
-use Rattle.engine.specs.Step.{Within, putAt}
+use Rattle.engine.specs.Step.{putAt}
+use Rattle.engine.specs.Inner.{Within}
 use Rattle.engine.specs.declared.Engine.{Engine}
 use Rattle.engine.specs.declared.Places.{Places}
 use Rattle.engine.specs.declared.Sheet.{Sheet}

@@ -17,7 +17,8 @@ use Rattle.steps.specs.declared.Spot.{Spot}
 use Rattle.steps.specs.declared.State.the-variants.{UnderWay}
 use Rattle.steps.specs.declared.View.{View}
 use Rattle.engine.specs.State.{baseOf, workerAt, programLength, programOf}
-use Rattle.engine.specs.Step.{Within, spotAt, placesOf, viewAt}
+use Rattle.engine.specs.Step.{spotAt, placesOf, viewAt}
+use Rattle.engine.specs.Inner.{Within}
 use Rattle.engine.specs.declared.Engine.{Engine}
 use Rattle.engine.specs.declared.Places.{Places}
 use Rattle.helping.specs.Ideal.{Touches, farOf}

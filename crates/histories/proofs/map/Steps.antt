@@ -30,7 +30,8 @@ use Rattle.steps.specs.declared.Worker.{Worker}
 use Rattle.engine.specs.State.{sheet0, freeSheet, workerAt, lockAt, wordAt, withWorker}
 use Rattle.engine.specs.Step.{placesOf, spotAt, viewAt, putAt, steppedOf}
 use Rattle.engine.specs.Calls as engine
-use Rattle.engine.specs.Calls.{Begins, takenOf}
+use Rattle.engine.specs.Calls.{takenOf}
+use Rattle.engine.specs.Inner.{Begins}
 use Rattle.engine.specs.declared.Engine.{Engine}
 use Rattle.engine.specs.declared.Places.{Places}
 use Rattle.engine.specs.declared.Sheet.{Sheet}
