@@ -1,17 +1,11 @@
 -- Any sequence of lent calls follows the history of the same calls on a state by value; so what is promised of histories is promised
 -- of the numbers. A lent call is what its contract says of any numbers (door/specs/Calls.antt): nothing here is assumed of one.
-use Prim.Native.Nat.{ℕ, _≤_, _<_}
-use mathlib.Core.Path.{_≡_}
-use mathlib.Core.List.{List, [], _∷_}
-use lib.ListN.{length}
+mod Names
+use Names.*
 use Rattle.cells.specs.Layout.{numbers, unpack, blanked}
 use Rattle.door.specs.Calls.{setupReply, setupLeft, beginReply, beginLeft, stepReply, stepLeft, collectReply, collectLeft, dropReply, dropLeft, wordReply, lockReply, showReply, showBuffer, parkReply, parkBuffer}
 use Rattle.door.specs.Door.{shortReply, toldFields, noAnswer, collectedFields, noWord, wordFields, noLock, lockFields, noBytes, wroteFields}
 use Rattle.engine.specs.Calls.{setupOf, beginOf, stepOf, collectOf, dropOf, readWordOf, readLockOf, showOf, shownOf, parkOf, parkedOf}
-use Rattle.engine.specs.declared.CollectTold.{CollectTold}
-use Rattle.engine.specs.declared.Engine.{Engine}
-use Rattle.parts.specs.declared.Refusal.{Refusal}
-use Rattle.parts.specs.declared.Told.the-variants.{Refused}
 use Rattle.past.specs.Past.{Call, Begin, Step, Collect, Drop, ReadWord, ReadLock, Show, Park, AllRecords, Past, afterAll, stateAfter}
 use Rattle.histories.specs.History.{Demand3}
 

@@ -1,17 +1,9 @@
 -- The C interface tells a refusal's place, and how many bytes were written, in 32 bits: nothing is cut, whatever the state and the
 -- arguments.
-use Prim.Native.Nat.{ℕ, _^_, _<_}
-use mathlib.Core.Path.{_≡_}
-use mathlib.Core.List.{List}
+mod Names
+use Names.*
 use Rattle.parts.specs.Told.{refusalPlace}
-use Rattle.parts.specs.declared.Refusal.{Refusal}
-use Rattle.parts.specs.declared.Told.the-variants.{Refused}
 use Rattle.engine.specs.Calls.{setupOf, beginOf, stepOf, collectOf, dropOf, readWordOf, readLockOf, showOf, parkOf}
-use Rattle.engine.specs.declared.CollectTold.{CollectTold}
-use Rattle.engine.specs.declared.Engine.{Engine}
-use Rattle.engine.specs.declared.LockTold.{LockTold}
-use Rattle.engine.specs.declared.WordTold.{WordTold}
-use Rattle.engine.specs.declared.WriteTold.{WriteTold}
 
 pub record Fits : Type 0 where
   -- the calls that tell a place of a record, or a lock

@@ -1,34 +1,10 @@
 -- What the numbers of each piece say, whatever they are, and the numbers that are written for it. A byte is a number's remainder
 -- by 256; a flag is set where the number isn't 0.
-use Prim.Native.Nat.{ℕ, _+_, _-_, _*_, _/_, _%_, _<_}
-use mathlib.Core.Bool.{Bool}
-use mathlib.Core.List.{List, [], _∷_}
-use lib.Dec.{eqb}
-use lib.ListN.{getD}
+mod Names
+use Names.*
 use Rattle.parts.specs.Parts.{registers0}
 use Rattle.parts.specs.Pick.{pick, _isnt_}
 use Rattle.parts.specs.Told.{answerNumber}
-use Rattle.parts.specs.declared.Answer.the-variants.{RanYes, RanNo, NotTaken}
-use Rattle.parts.specs.declared.Answer.{Answer}
-use Rattle.parts.specs.declared.Entry.{Entry}
-use Rattle.parts.specs.declared.Fill.the-variants.{Empty, Filled}
-use Rattle.parts.specs.declared.Fill.{Fill}
-use Rattle.parts.specs.declared.Holder.{Holder}
-use Rattle.parts.specs.declared.Holder.the-variants.{Free, By}
-use Rattle.parts.specs.declared.Instr.{Instr}
-use Rattle.parts.specs.declared.LockWord.{LockWord}
-use Rattle.parts.specs.declared.Reading.{Reading}
-use Rattle.parts.specs.declared.Registers.{Registers}
-use Rattle.parts.specs.declared.Word.{Word}
-use Rattle.steps.specs.declared.Point.the-variants.{Look, Grab, LookAgain, ReadMark}
-use Rattle.steps.specs.declared.Point.{Point}
-use Rattle.steps.specs.declared.Run.{Run}
-use Rattle.steps.specs.declared.Stage.the-variants.{Read, Commit, Swap, Mark, Release}
-use Rattle.steps.specs.declared.Stage.{Stage}
-use Rattle.steps.specs.declared.State.the-variants.{Idle, UnderWay, Finished}
-use Rattle.steps.specs.declared.State.{State}
-use Rattle.steps.specs.declared.Worker.{Worker}
-use Rattle.engine.specs.declared.Sheet.{Sheet}
 
 abbrev pub byteOf : ℕ → ℕ
 byteOf x = x % 256

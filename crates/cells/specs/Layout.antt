@@ -1,18 +1,8 @@
 -- Where the state stands in a list of numbers, the state that any such numbers say, and the numbers with one piece written.
-use Prim.Native.Nat.{ℕ, _+_, _*_}
-use mathlib.Core.List.{List, [], _∷_}
-use lib.ListN.{getD, set, replicate}
+mod Names
+use Names.*
 use Rattle.parts.specs.Lay.{lay}
 use Rattle.parts.specs.Numbers.{workers, mostLocks, mostWords, sheets, entries}
-use Rattle.parts.specs.declared.Entry.{Entry}
-use Rattle.parts.specs.declared.Instr.{Instr}
-use Rattle.parts.specs.declared.LockWord.{LockWord}
-use Rattle.parts.specs.declared.Reading.{Reading}
-use Rattle.parts.specs.declared.Word.{Word}
-use Rattle.steps.specs.declared.Run.{Run}
-use Rattle.steps.specs.declared.Worker.{Worker}
-use Rattle.engine.specs.declared.Engine.{Engine}
-use Rattle.engine.specs.declared.Sheet.{Sheet}
 use Rattle.cells.specs.Codes.{byteOf, atTag, atLock, atOwn, atSteps, idleTag, runIn, readingIn, seenIn, workerIn, workerNumbers, lockIn, lockNumbers, wordIn, wordNumbers, sheetIn, sheetNumbers, instrIn, instrNumbers, entryIn, entryNumbers}
 use Rattle.cells.specs.Pieces.{Part, reads, placeOf, piecesOf, putPiece}
 

@@ -1,19 +1,13 @@
 -- What each of the nine calls tells and leaves, of any numbers that a caller lends: what the contracts of the C interface say, and what
 -- the promises of a history of such calls (carried) are about.
-use Prim.Native.Nat.{ℕ}
-use mathlib.Core.List.{List}
-use lib.ListN.{length}
+mod Names
+use Names.*
 use Rattle.cells.specs.Layout.{unpack}
 use Rattle.engine.specs.Calls.{setupOf, beginOf, stepOf, collectOf, dropOf, readWordOf, readLockOf, showOf, shownOf, parkOf, parkedOf}
 use Rattle.lent.specs.Calls.{collectNumbers, dropNumbers}
 use Rattle.lent_step.specs.Points.{stepNumbers}
 use Rattle.lent_in.specs.Calls.{setupNumbers, beginNumbers}
 use Rattle.door.specs.Door.{unlessShort, shortReply, toldFields, noAnswer, collectedFields, noWord, wordFields, noLock, lockFields, noBytes, wroteFields}
-use Rattle.door.specs.declared.Collected.{Collected}
-use Rattle.door.specs.declared.LockRead.{LockRead}
-use Rattle.door.specs.declared.Reply.{Reply}
-use Rattle.door.specs.declared.WordRead.{WordRead}
-use Rattle.door.specs.declared.Wrote.{Wrote}
 
 abbrev pub setupReply : List ℕ → List ℕ → Reply
 setupReply s rec = unlessShort s shortReply (toldFields (setupOf rec .told))

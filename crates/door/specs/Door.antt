@@ -1,23 +1,9 @@
 -- What the C interface tells: document 01's numbers and places, and 0 where a field has nothing to tell.
-use Prim.Native.Nat.{ℕ, _%_, _^_}
-use mathlib.Core.List.{List}
-use lib.Dec.{ltb}
-use lib.ListN.{length}
+mod Names
+use Names.*
 use Rattle.parts.specs.Pick.{pick, onHolder}
 use Rattle.parts.specs.Told.{answerNumber, refusalNumber, refusalPlace}
-use Rattle.parts.specs.declared.LockWord.{LockWord}
-use Rattle.parts.specs.declared.Refusal.{Refusal}
-use Rattle.parts.specs.declared.Told.{Told}
 use Rattle.cells.specs.Layout.{numbers}
-use Rattle.engine.specs.declared.CollectTold.{CollectTold}
-use Rattle.engine.specs.declared.LockTold.{LockTold}
-use Rattle.engine.specs.declared.WordTold.{WordTold}
-use Rattle.engine.specs.declared.WriteTold.{WriteTold}
-use Rattle.door.specs.declared.Collected.{Collected}
-use Rattle.door.specs.declared.LockRead.{LockRead}
-use Rattle.door.specs.declared.Reply.{Reply}
-use Rattle.door.specs.declared.WordRead.{WordRead}
-use Rattle.door.specs.declared.Wrote.{Wrote}
 
 -- Fewer numbers than the layout has: refusal 22, place 0: the first then, else the second
 abbrev pub unlessShort : {A : Type 0} → List ℕ → A → A → A

@@ -1,35 +1,13 @@
 -- The nine calls: each call's order of refusals, as document 01 lists it, and what an accepted call does and tells.
-use Prim.Native.Nat.{ℕ, _+_, _*_}
-use mathlib.Core.Bool.{Bool, true, false}
-use mathlib.Core.List.{List, [], _∷_, map}
-use lib.Dec.{eqb, leb, ltb}
-use lib.ListN.{length, set, take, replicate}
+mod Names
+use Names.*
 use Rattle.arrays.specs.Fresh.{wordsFrom, freeAt, guardsOf}
 use Rattle.arrays.specs.Held.{heldTold}
-use Rattle.parts.specs.Lay.{lay}
-use Rattle.parts.specs.Numbers.{workers, mostLocks, mostWords, sheets, instructions}
-use Rattle.parts.specs.Parts.{word0, lock0, instr0, entry0, wornOf}
-use Rattle.parts.specs.Pick.{pick, _or_}
-use Rattle.parts.specs.Told.{onTold, refuseIf, firstOf}
-use Rattle.parts.specs.declared.Answer.{Answer}
-use Rattle.parts.specs.declared.Answer.the-variants.{NotTaken}
-use Rattle.parts.specs.declared.LockWord.{LockWord}
-use Rattle.parts.specs.declared.Refusal.the-variants.{NoWorker, NoLock, LastTurn, NoSheet, Range, Buffer, SheetFree, NoWord}
-use Rattle.parts.specs.declared.Told.{Told}
-use Rattle.parts.specs.declared.Told.the-variants.{Accepted, Refused}
 use Rattle.records.specs.Job.{jobOf, jobTold}
 use Rattle.records.specs.Setup.{locksField, wordsField, guardsField, valuesField, turnsField, setupTold, setupLength}
 use Rattle.steps.specs.Worker.{onState, beganOf, collectedOf, droppedOf, beginByState, stepByState, collectByState, dropByState}
-use Rattle.steps.specs.declared.Worker.{Worker}
 use Rattle.engine.specs.State.{blankOf, lockCount, wordCount, wordsOf, workerAt, lockAt, wordAt, inUse, freeSheet, baseOf, programLength, sheetRecord, stateRecord, withWorker}
 use Rattle.engine.specs.Step.{steppedOf}
-use Rattle.engine.specs.declared.CollectTold.{CollectTold}
-use Rattle.engine.specs.declared.Collected.{Collected}
-use Rattle.engine.specs.declared.Engine.{Engine}
-use Rattle.engine.specs.declared.LockTold.{LockTold}
-use Rattle.engine.specs.declared.Outcome.{Outcome}
-use Rattle.engine.specs.declared.WordTold.{WordTold}
-use Rattle.engine.specs.declared.WriteTold.{WriteTold}
 
 -- "A refusal returns its number and place, the state as it came": what was told of a call on state e, and the state where it
 -- was accepted

@@ -1,22 +1,14 @@
 -- "A state machine of workers, locks, words and sheets." A remainder here keeps an index in its range whatever the state; in a
 -- state that the calls gave none ever changes a number.
-use Prim.Native.Nat.{ℕ, _+_, _*_, _%_}
-use mathlib.Core.Bool.{Bool, false}
-use mathlib.Core.List.{List}
-use lib.ListN.{getD, set, take, drop, replicate}
+mod Names
+use Names.*
 use Rattle.arrays.specs.Fresh.{guardsOf, valuesOf, turnsOf}
 use Rattle.parts.specs.Numbers.{workers, mostLocks, mostWords, sheets, instructions, entries}
 use Rattle.parts.specs.Parts.{word0, lock0, instr0, entry0}
-use Rattle.parts.specs.declared.Instr.{Instr}
-use Rattle.parts.specs.declared.LockWord.{LockWord}
-use Rattle.parts.specs.declared.Word.{Word}
 use Rattle.records.specs.Job.{jobRecord}
 use Rattle.records.specs.Setup.{setupRecord}
 use Rattle.sheets.specs.Sheets.{inUseOf, freeSheetOf}
 use Rattle.steps.specs.Worker.{worker0}
-use Rattle.steps.specs.declared.Worker.{Worker}
-use Rattle.engine.specs.declared.Engine.{Engine}
-use Rattle.engine.specs.declared.Sheet.{Sheet}
 
 abbrev pub sheet0 : Sheet
 sheet0 = record { length = 0; done = false }

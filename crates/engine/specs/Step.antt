@@ -1,19 +1,12 @@
 -- A step of the whole state: the pieces that it can touch are read out, the step is done to them, and they are put back.
-use Prim.Native.Nat.{ℕ, _+_, _%_}
-use lib.ListN.{getD, set}
+mod Names
+use Names.*
 use Rattle.parts.specs.Instr.{wordOf}
 use Rattle.parts.specs.Numbers.{mostLocks, mostWords, sheets, instructions}
 use Rattle.parts.specs.Parts.{instr0, entry0}
-use Rattle.parts.specs.declared.Instr.{Instr}
 use Rattle.steps.specs.Places.{spotOf}
 use Rattle.steps.specs.Try.{effectOf}
-use Rattle.steps.specs.declared.Point.{Point}
-use Rattle.steps.specs.declared.Spot.{Spot}
-use Rattle.steps.specs.declared.View.{View}
-use Rattle.steps.specs.declared.Worker.{Worker}
 use Rattle.engine.specs.State.{sheet0, workerAt, lockAt, wordAt, baseOf}
-use Rattle.engine.specs.declared.Engine.{Engine}
-use Rattle.engine.specs.declared.Places.{Places}
 
 -- where a step's instruction stands, and its log entry, by its spot
 abbrev pub instrAt : Spot → ℕ

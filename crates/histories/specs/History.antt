@@ -1,39 +1,14 @@
 -- Demand 3, over all histories: what the calls that were made come to (the calls and the state after them: past/specs), and what is
 -- promised of every cut of every history. A job alone, a first part of one and a list of them: alone/specs (`aloneOf`, `partOf`, `givesOf`, `times`).
-use Prim.Native.Nat.{ℕ, suc, _+_, _%_, _^_, _≤_, _<_}
-use mathlib.Core.Path.{_≡_}
-use mathlib.Core.Logic.{_≢_}
-use mathlib.Core.Bool.{Bool, true, false}
-use mathlib.Core.List.{List, [], _∷_, _++_}
-use lib.Dec.{eqb}
-use lib.ListN.{getD, length}
+mod Names
+use Names.*
 use Rattle.arrays.specs.Fresh.{guardsOf, valuesOf}
-use Rattle.parts.specs.Instr.{asksOf, wordOf}
-use Rattle.parts.specs.Numbers.{workers, mostLocks, mostWords, sheets, instructions, lastTurn, trySteps, helpSteps}
-use Rattle.parts.specs.Parts.{instr0, next32, registerOf}
-use Rattle.parts.specs.Pick.{pick, onHolder}
-use Rattle.parts.specs.Told.{onTold}
-use Rattle.parts.specs.declared.Answer.{Answer}
-use Rattle.parts.specs.declared.Answer.the-variants.{RanYes, RanNo, NotTaken}
-use Rattle.parts.specs.declared.Asks.the-variants.{Go, Touch}
-use Rattle.parts.specs.declared.Holder.the-variants.{Free, By}
-use Rattle.parts.specs.declared.Instr.{Instr}
-use Rattle.parts.specs.declared.LockWord.{LockWord}
-use Rattle.parts.specs.declared.Registers.{Registers}
-use Rattle.parts.specs.declared.Told.the-variants.{Accepted}
 use Rattle.records.specs.Bytes.{AllBytes}
 use Rattle.records.specs.Job.{jobOf, jobTold}
 use Rattle.alone.specs.Alone.{aloneOf}
 use Rattle.alone.specs.Jobs.{Try, givesOf, times, partOf}
-use Rattle.steps.specs.declared.Point.{Point}
-use Rattle.steps.specs.declared.Point.the-variants.{Look, Grab, LookAgain, ReadMark}
-use Rattle.steps.specs.declared.Run.{Run}
-use Rattle.steps.specs.declared.State.the-variants.{Idle, UnderWay, Finished}
 use Rattle.engine.specs.State.{sheet0, lockCount, wordCount, workerAt, lockAt, wordAt, wordsOf, baseOf, programLength, programOf}
 use Rattle.engine.specs.Calls.{setupOf, beginOf, stepOf, collectOf, dropOf}
-use Rattle.engine.specs.declared.CollectTold.{CollectTold}
-use Rattle.engine.specs.declared.Engine.{Engine}
-use Rattle.engine.specs.declared.Outcome.{Outcome}
 use Rattle.past.specs.Past.{Call, Begin, Step, Collect, Drop, ReadWord, ReadLock, Show, Park, steps, AllRecords, Past, stateAfter}
 
 -- 1. WHAT A HISTORY COMES TO: the state; how many begins were accepted; the try of each worker's last accepted begin, and the

@@ -1,22 +1,11 @@
 -- Setup and begin on lent numbers: the numbers after the call exactly, and the state half-way.
-use Prim.Native.Nat.{ℕ}
-use mathlib.Core.Bool.{false}
-use mathlib.Core.List.{List, [], _∷_, map}
-use lib.Dec.{leb}
-use lib.ListN.{length, replicate}
-use Rattle.arrays.specs.Fresh.{wordsFrom, freeAt, guardsOf}
-use Rattle.parts.specs.Numbers.{workers, instructions}
-use Rattle.parts.specs.Parts.{instr0, entry0, wornOf}
-use Rattle.parts.specs.Told.{onTold, refuseIf}
-use Rattle.parts.specs.declared.Refusal.the-variants.{NoWorker, NoLock, LastTurn}
-use Rattle.parts.specs.declared.Told.{Told}
+mod Names
+use Names.*
 use Rattle.records.specs.Job.{jobOf, jobTold}
 use Rattle.records.specs.Setup.{locksField, wordsField, guardsField, valuesField, turnsField, setupTold}
 use Rattle.steps.specs.Worker.{beganOf, beginByState}
 use Rattle.engine.specs.State.{lockCount, wordsOf, workerAt, lockAt, freeSheet, baseOf}
 use Rattle.engine.specs.Calls.{beginTold}
-use Rattle.engine.specs.declared.Engine.{Engine}
-use Rattle.engine.specs.declared.Sheet.{Sheet}
 use Rattle.cells.specs.Layout.{wordPart, lockPart, instrPart, entryPart, unpack, putSizes, putSheet, putWorker, blanked}
 use Rattle.cells.specs.State.{withSizes}
 use Rattle.lent_in.specs.Laid.{putAll, layWords, layLocks, layProgram, layLog}

@@ -1,13 +1,7 @@
 -- Pieces written one after the other from a place on: the numbers, and the state that they say.
-use Prim.Native.Nat.{ℕ, _+_}
-use mathlib.Core.List.{List, [], _∷_}
-use mathlib.Core.Path.{_≡_}
+mod Names
+use Names.*
 use Rattle.parts.specs.Lay.{lay}
-use Rattle.parts.specs.declared.Entry.{Entry}
-use Rattle.parts.specs.declared.Instr.{Instr}
-use Rattle.parts.specs.declared.LockWord.{LockWord}
-use Rattle.parts.specs.declared.Word.{Word}
-use Rattle.engine.specs.declared.Engine.{Engine}
 use Rattle.cells.specs.Layout.{unpack}
 use Rattle.cells.specs.Pieces.{Part, putPiece}
 

@@ -1,22 +1,10 @@
 -- What a step looks at, read off the numbers.
-use Prim.Native.Nat.{ℕ, _+_, _-_, _%_, _^_}
-use mathlib.Core.Bool.{Bool}
-use mathlib.Core.List.{List}
-use lib.ListN.{getD}
-use Rattle.parts.specs.Instr.{wordOf}
-use Rattle.parts.specs.Numbers.{mostLocks, mostWords, sheets}
-use Rattle.parts.specs.Parts.{instr0, entry0, registerOf}
-use Rattle.parts.specs.declared.Answer.{Answer}
-use Rattle.parts.specs.declared.Entry.{Entry}
-use Rattle.parts.specs.declared.Instr.{Instr}
-use Rattle.parts.specs.declared.LockWord.{LockWord}
-use Rattle.parts.specs.declared.Registers.{Registers}
-use Rattle.parts.specs.declared.Word.{Word}
+mod Names
+use Names.*
 use Rattle.steps.specs.Places.{runSpot}
 use Rattle.steps.specs.Try.{answerOf}
 use Rattle.engine.specs.State.{sheet0, workerAt, lockAt, wordAt}
 use Rattle.engine.specs.Step.{instrAt, entryAt}
-use Rattle.engine.specs.declared.Sheet.{Sheet}
 use Rattle.cells.specs.Codes.{flagOf, atNew}
 use Rattle.cells.specs.Layout.{unpack, numberAt, runNow}
 

@@ -1,32 +1,10 @@
 -- The numbers after a step, by the worker's tag: what each point looks at is read off the numbers, and what it changes is written.
-use Prim.Native.Nat.{ℕ, _+_, _-_, _*_, _%_, _^_}
-use mathlib.Core.Bool.{Bool, true, false}
-use mathlib.Core.List.{List}
-use lib.Dec.{eqb}
-use lib.ListN.{getD}
-use Rattle.parts.specs.Instr.{overOf, wordOf}
-use Rattle.parts.specs.Numbers.{mostLocks, mostWords, sheets, lastTurn}
-use Rattle.parts.specs.Parts.{next32, instr0, entry0, readingOf, registerOf, holdsOf, swapOf, grabOf, releaseOf}
-use Rattle.parts.specs.Pick.{pick, onHolder, onFill}
-use Rattle.parts.specs.Told.{onTold}
-use Rattle.parts.specs.declared.Answer.{Answer}
-use Rattle.parts.specs.declared.Answer.the-variants.{NotTaken}
-use Rattle.parts.specs.declared.Entry.{Entry}
-use Rattle.parts.specs.declared.Fill.the-variants.{Filled}
-use Rattle.parts.specs.declared.Instr.{Instr}
-use Rattle.parts.specs.declared.LockWord.{LockWord}
-use Rattle.parts.specs.declared.Reading.{Reading}
-use Rattle.parts.specs.declared.Registers.{Registers}
-use Rattle.parts.specs.declared.Word.{Word}
-use Rattle.steps.specs.Places.{runSpot}
-use Rattle.steps.specs.Try.{answerOf}
+mod Names
+use Names.*
 use Rattle.engine.specs.Calls.{stepTold}
-use Rattle.engine.specs.State.{sheet0, workerAt, lockAt, wordAt}
-use Rattle.engine.specs.Step.{instrAt, entryAt}
-use Rattle.engine.specs.declared.Sheet.{Sheet}
-use Rattle.cells.specs.Codes.{flagOf, atTag, atTurn, atNew, lookTag, grabTag, lookAgainTag, readMarkTag, readTag, commitTag, swapTag, markTag}
+use Rattle.cells.specs.Codes.{atTag, atTurn, atNew, lookTag, grabTag, lookAgainTag, readMarkTag, readTag, commitTag, swapTag, markTag}
 use Rattle.cells.specs.Layout.{unpack, numberAt, runNow, readNow, seenNow, putLock, putWord, putSheet, putEntry}
-use Rattle.lent_moves.specs.Looks.{ownNow, lockPlace, lockNow, saidNow, registersNow, instrNow, wordPlace, wordNow, entryPlace, entryNow, sheetNow, sumNow, differenceNow, answerNow}
+use Rattle.lent_moves.specs.Looks.{ownNow, lockPlace, lockNow, registersNow, instrNow, wordPlace, wordNow, entryPlace, entryNow, sheetNow, sumNow, differenceNow, answerNow}
 use Rattle.lent_moves.specs.Moves.{toGrab, toLookAgain, toReadMark, started, passed, went, toMark, toCommit, logged, loaded, toSwap, toRelease, finished}
 
 -- 1. Look, by the lock word that it finds

@@ -1,15 +1,8 @@
 -- The eight meanings of an instruction, once: a job alone and the engine's steps both go by them.
-use Prim.Native.Nat.{ℕ, _+_, _-_, _*_, _%_, _^_}
-use mathlib.Core.Bool.{Bool, false}
-use lib.Dec.{eqb}
+mod Names
+use Names.*
 use Rattle.parts.specs.Pick.{pick}
 use Rattle.parts.specs.Parts.{registerOf, withRegister}
-use Rattle.parts.specs.declared.Asks.{Asks}
-use Rattle.parts.specs.declared.Asks.the-variants.{Halt, Go, Touch}
-use Rattle.parts.specs.declared.Follows.{Follows}
-use Rattle.parts.specs.declared.Follows.the-variants.{Done, Swap}
-use Rattle.parts.specs.declared.Instr.{Instr}
-use Rattle.parts.specs.declared.Registers.{Registers}
 
 -- set: "register a becomes b + 256c"
 abbrev pub setOf : Instr → Registers → Registers

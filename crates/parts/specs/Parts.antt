@@ -1,17 +1,8 @@
 -- What is done to one small value of the engine.
-use Prim.Native.Nat.{ℕ, _+_, _%_, _^_}
-use mathlib.Core.Bool.{Bool, false}
-use lib.Dec.{eqb}
+mod Names
+use Names.*
 use Rattle.parts.specs.Numbers.{lastTurn}
 use Rattle.parts.specs.Pick.{pick, onHolder, onFill}
-use Rattle.parts.specs.declared.Entry.{Entry}
-use Rattle.parts.specs.declared.Fill.the-variants.{Empty, Filled}
-use Rattle.parts.specs.declared.Holder.the-variants.{Free, By}
-use Rattle.parts.specs.declared.Instr.{Instr}
-use Rattle.parts.specs.declared.LockWord.{LockWord}
-use Rattle.parts.specs.declared.Reading.{Reading}
-use Rattle.parts.specs.declared.Registers.{Registers}
-use Rattle.parts.specs.declared.Word.{Word}
 
 -- the values at the start, and past an array's end
 abbrev pub instr0 : Instr

@@ -1,16 +1,9 @@
 -- "Kind 1, job. 4 bytes for each instruction (op, a, b, c); length 4 + 4n, n from 1 to 32."
-use Prim.Native.Nat.{ℕ, _+_, _-_, _*_, _/_, _%_}
-use mathlib.Core.Bool.{Bool, true, false}
-use mathlib.Core.List.{List, [], _∷_}
-use lib.Dec.{eqb, leb, ltb}
-use lib.ListN.{length, getD, drop}
+mod Names
+use Names.*
 use Rattle.parts.specs.Numbers.{instructions, lastRegister}
 use Rattle.parts.specs.Pick.{pick, _or_, _isnt_}
 use Rattle.parts.specs.Told.{refuseIf, _then_, firstOf}
-use Rattle.parts.specs.declared.Instr.{Instr}
-use Rattle.parts.specs.declared.Refusal.the-variants.{Length, Kind, Instruction, Guard}
-use Rattle.parts.specs.declared.Told.{Told}
-use Rattle.parts.specs.declared.Told.the-variants.{Accepted}
 use Rattle.records.specs.Bytes.{kindField, lengthTold, header}
 
 abbrev pub jobKind : ℕ

@@ -1,16 +1,10 @@
 -- "Kind 2, setup. Byte 4: locks L. Byte 5: words W. Then W guard bytes (each below L), W values of 4 bytes, L starting turns of
 -- 4 bytes. Length 6 + 5W + 4L."
-use Prim.Native.Nat.{ℕ, _+_, _*_}
-use mathlib.Core.Bool.{Bool}
-use mathlib.Core.List.{List, [], _∷_, _++_}
-use lib.Dec.{leb, ltb}
-use lib.ListN.{length, getD, take, drop}
+mod Names
+use Names.*
 use Rattle.parts.specs.Numbers.{mostLocks, mostWords, lastTurn}
 use Rattle.parts.specs.Pick.{_or_, _isnt_}
 use Rattle.parts.specs.Told.{refuseIf, _then_, firstOf}
-use Rattle.parts.specs.declared.Refusal.the-variants.{Length, Kind, Range}
-use Rattle.parts.specs.declared.Told.{Told}
-use Rattle.parts.specs.declared.Told.the-variants.{Accepted}
 use Rattle.records.specs.Bytes.{u32sOf, u32sBytes, kindField, lengthTold, header}
 
 abbrev pub setupKind : ℕ

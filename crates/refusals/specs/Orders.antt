@@ -1,39 +1,14 @@
 -- Each call's order of refusals, one row for each test that document 01 names, and what demand 1 says of the calls by them: each
 -- refusal is given exactly when its row refuses and every row before it accepts, and a refused call changes nothing.
-use Prim.Native.Nat.{ℕ, _+_, _*_, _<_}
-use mathlib.Core.Path.{_≡_}
-use mathlib.Core.Bool.{Bool, true, false}
-use mathlib.Core.List.{List, [], _∷_, _++_}
-use mathlib.Core.Logic.{_↔_}
-use lib.Dec.{eqb, leb, ltb}
-use lib.ListN.{length}
+mod Names
+use Names.*
 use Rattle.arrays.specs.Fresh.{guardsOf}
-use Rattle.parts.specs.Numbers.{workers, mostLocks, mostWords, sheets, lastTurn}
-use Rattle.parts.specs.Parts.{wornOf}
-use Rattle.parts.specs.Pick.{_or_, _isnt_, onHolder}
-use Rattle.parts.specs.Told.{refuseIf, refusalNumber, refusalPlace, FirstAt}
-use Rattle.parts.specs.declared.Answer.{Answer}
-use Rattle.parts.specs.declared.Instr.{Instr}
-use Rattle.parts.specs.declared.LockWord.{LockWord}
-use Rattle.parts.specs.declared.Refusal.{Refusal}
-use Rattle.parts.specs.declared.Refusal.the-variants.{NoWorker, NoLock, WorkerUnderWay, NotCollected, Length, Kind, Instruction, Guard, LastTurn, NoSheet, WorkerIdle, Range, Buffer, SheetFree, Held, NoWord}
-use Rattle.parts.specs.declared.Told.{Told}
-use Rattle.parts.specs.declared.Told.the-variants.{Accepted, Refused}
 use Rattle.records.specs.Bytes.{kindField, wrongLength}
 use Rattle.records.specs.Job.{jobKind, jobOf, badlyFormed, endsOtherwise, straysAt, noJobLength}
 use Rattle.records.specs.Setup.{setupKind, locksField, wordsField, guardsField, turnsField, setupLength, outside}
 use Rattle.steps.specs.Worker.{onState}
-use Rattle.steps.specs.declared.Point.{Point}
-use Rattle.steps.specs.declared.State.{State}
-use Rattle.steps.specs.declared.State.the-variants.{UnderWay, Finished}
 use Rattle.engine.specs.Calls.{setupOf, beginOf, stepOf, collectOf, dropOf, readWordOf, readLockOf, isFree, showOf, shownOf, parkOf, parkedOf}
 use Rattle.engine.specs.State.{blankOf, lockCount, wordCount, locksOf, wordsOf, workerAt, lockAt, freeSheet, programLength}
-use Rattle.engine.specs.declared.CollectTold.{CollectTold}
-use Rattle.engine.specs.declared.Engine.{Engine}
-use Rattle.engine.specs.declared.LockTold.{LockTold}
-use Rattle.engine.specs.declared.Outcome.{Outcome}
-use Rattle.engine.specs.declared.WordTold.{WordTold}
-use Rattle.engine.specs.declared.WriteTold.{WriteTold}
 
 -- "A worker is idle, under way at a named point of its try, or finished with one of three answers."
 abbrev pub stateOf : Engine → ℕ → State

@@ -1,17 +1,7 @@
 -- What a line of the script is: words separated by single spaces, of which the first names the call.
-use Prim.Native.Nat.{ℕ, _+_, _*_, _-_, _%_, min}
-use mathlib.Core.Bool.{Bool, true, false}
-use mathlib.Core.List.{List, [], _∷_}
-use lib.Dec.{eqb, ltb}
-use lib.ListN.{length, getD, take, drop}
+mod Names
+use Names.*
 use Rattle.parts.specs.Pick.{pick}
-use Rattle.session.specs.declared.line.Number.{Number}
-use Rattle.session.specs.declared.line.Pair.{Pair}
-use Rattle.session.specs.declared.line.Verb.{Verb}
-use Rattle.session.specs.declared.line.Verb.the-variants.{Setup, Begin, Step, Collect, Drop, Word, Lock, Show, Park, Other}
-use Rattle.session.specs.declared.line.Call.{Call}
-use Rattle.session.specs.declared.line.Line.{Line}
-use Rattle.session.specs.declared.line.Line.the-variants.{Passed, Makes, Bad}
 
 -- the bytes that part a script: a newline, a space, `#` and `-`
 abbrev pub newline : ℕ

@@ -1,24 +1,10 @@
 -- The call that a line names, made on the engine, and what is told of it.
-use Prim.Native.Nat.{ℕ, zero, suc, _+_}
-use mathlib.Core.List.{List, _++_}
-use lib.ListN.{take, drop, replicate}
+mod Names
+use Names.*
 use Rattle.engine.specs.Calls.{setupOf, beginOf, stepOf, collectOf, dropOf, readWordOf, readLockOf, showOf, shownOf, parkOf, parkedOf}
-use Rattle.engine.specs.declared.CollectTold.{CollectTold}
-use Rattle.engine.specs.declared.Engine.{Engine}
-use Rattle.engine.specs.declared.LockTold.{LockTold}
-use Rattle.engine.specs.declared.Outcome.{Outcome}
-use Rattle.engine.specs.declared.WordTold.{WordTold}
-use Rattle.engine.specs.declared.WriteTold.{WriteTold}
 use Rattle.parts.specs.Told.{onTold, answerNumber}
-use Rattle.parts.specs.declared.Holder.the-variants.{Free}
-use Rattle.parts.specs.declared.Told.{Told}
-use Rattle.parts.specs.declared.Told.the-variants.{Accepted, Refused}
 use Rattle.session.specs.Line.{mostBytes, afterWord, recordIn}
 use Rattle.session.specs.Text.{lentOf}
-use Rattle.session.specs.declared.line.Call.{Call}
-use Rattle.session.specs.declared.obey.Reply.{Reply}
-use Rattle.session.specs.declared.text.Tail.{Tail}
-use Rattle.session.specs.declared.text.Tail.the-variants.{Nothing, Steps, Answer, Word, Lock, Bytes}
 
 -- 512 bytes x
 unfoldable pub filledWith : ℕ → List ℕ

@@ -1,18 +1,10 @@
 -- What is written of a call: one line, `LINE refusal place ...` in decimal with single spaces.
-use Prim.Native.Nat.{ℕ, zero, suc, _+_, _*_, _/_, _%_, _≤_, min}
-use mathlib.Core.Path.{_≡_}
-use mathlib.Core.List.{List, [], _∷_, _++_}
-use lib.Dec.{eqb, ltb}
-use lib.ListN.{length, take}
+mod Names
+use Names.*
 use Rattle.parts.specs.Lay.{lay}
 use Rattle.parts.specs.Pick.{pick, onHolder}
 use Rattle.parts.specs.Told.{onTold, refusalNumber, refusalPlace}
-use Rattle.parts.specs.declared.Holder.{Holder}
-use Rattle.parts.specs.declared.Refusal.{Refusal}
-use Rattle.parts.specs.declared.Told.{Told}
 use Rattle.session.specs.Line.{newline, space, dash, mostBytes}
-use Rattle.session.specs.declared.text.Tail.{Tail}
-use Rattle.session.specs.declared.text.Tail.the-variants.{Nothing, Steps, Answer, Word, Lock, Bytes}
 
 -- what a writer does that puts a text of at most k bytes into a buffer from place `at` on: the place after it, and the buffer
 pub record Puts (at k : ℕ) (text old new : List ℕ) (next : ℕ) : Type 0 where

@@ -1,18 +1,10 @@
 -- The walk over a script: what its next line tells, and the state after it.
-use Prim.Native.Nat.{ℕ, _≤_}
-use mathlib.Core.Path.{_≡_}
-use mathlib.Core.Bool.{true, false}
-use mathlib.Core.List.{List, []}
-use lib.ListN.{length}
-use Rattle.engine.specs.declared.Engine.{Engine}
+mod Names
+use Names.*
 use Rattle.parts.specs.Lay.{lay}
 use Rattle.session.specs.Line.{newline, beforeOf}
 use Rattle.session.specs.Reply.{replyOf}
 use Rattle.session.specs.Text.{mostReply, replyText, badText}
-use Rattle.session.specs.declared.line.Line.{Line}
-use Rattle.session.specs.declared.line.Line.the-variants.{Passed, Makes, Bad}
-use Rattle.session.specs.declared.obey.Reply.{Reply}
-use Rattle.session.specs.declared.walk.Said.{Said}
 
 -- what is written of a reply, by the number of its line
 abbrev pub textOf : ℕ → Reply → List ℕ

@@ -1,16 +1,8 @@
 -- Which sheet a worker's step can touch, where on it, and which sheets a worker under way keeps in use.
-use Prim.Native.Nat.{ℕ}
-use mathlib.Core.Bool.{Bool, false}
-use lib.Dec.{eqb}
+mod Names
+use Names.*
 use Rattle.parts.specs.Pick.{_or_, onHolder}
-use Rattle.parts.specs.declared.Holder.{Holder}
-use Rattle.parts.specs.declared.Holder.the-variants.{Free, By}
 use Rattle.steps.specs.Worker.{onState}
-use Rattle.steps.specs.declared.Point.{Point}
-use Rattle.steps.specs.declared.Point.the-variants.{Look, Grab, LookAgain, ReadMark}
-use Rattle.steps.specs.declared.Run.{Run}
-use Rattle.steps.specs.declared.Spot.{Spot}
-use Rattle.steps.specs.declared.Worker.{Worker}
 
 abbrev pub runSpot : Run → Spot
 runSpot r = record { sheet = r .sheet; next = r .next; place = r .place }

@@ -1,27 +1,11 @@
 -- One try, step by step: what each line of document 01's list does to the pieces that a step can touch.
-use Prim.Native.Nat.{ℕ, _+_, _%_, _^_}
-use mathlib.Core.Bool.{Bool, true}
-use lib.Dec.{eqb}
+mod Names
+use Names.*
 use Rattle.parts.specs.Instr.{asksOf, followsOf, onAsks, onFollows}
 use Rattle.parts.specs.Numbers.{lastTurn}
 use Rattle.parts.specs.Parts.{next32, registers0, readingOf, swapOf, committedOf, holdsOf, grabOf, releaseOf}
 use Rattle.parts.specs.Pick.{pick, onHolder}
-use Rattle.parts.specs.declared.Answer.{Answer}
-use Rattle.parts.specs.declared.Answer.the-variants.{RanYes, RanNo, NotTaken}
-use Rattle.parts.specs.declared.Entry.{Entry}
-use Rattle.parts.specs.declared.LockWord.{LockWord}
-use Rattle.parts.specs.declared.Reading.{Reading}
-use Rattle.parts.specs.declared.Registers.{Registers}
-use Rattle.parts.specs.declared.Word.{Word}
 use Rattle.steps.specs.Worker.{movedOf}
-use Rattle.steps.specs.declared.Point.{Point}
-use Rattle.steps.specs.declared.Point.the-variants.{Look, Grab, LookAgain, ReadMark}
-use Rattle.steps.specs.declared.Run.{Run}
-use Rattle.steps.specs.declared.Stage.{Stage}
-use Rattle.steps.specs.declared.Stage.the-variants.{Read, Commit, Swap, Mark, Release}
-use Rattle.steps.specs.declared.State.{State}
-use Rattle.steps.specs.declared.State.the-variants.{UnderWay, Finished}
-use Rattle.steps.specs.declared.View.{View}
 
 -- the pieces with one of them changed
 abbrev pub viewWithLock : View → LockWord → View

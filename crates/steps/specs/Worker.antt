@@ -1,15 +1,7 @@
 -- "A worker is idle, under way at a named point of its try, or finished with one of three answers."
-use Prim.Native.Nat.{ℕ}
+mod Names
+use Names.*
 use Rattle.parts.specs.Parts.{next32}
-use Rattle.parts.specs.declared.Answer.{Answer}
-use Rattle.parts.specs.declared.Refusal.the-variants.{WorkerUnderWay, NotCollected, WorkerIdle}
-use Rattle.parts.specs.declared.Told.{Told}
-use Rattle.parts.specs.declared.Told.the-variants.{Accepted, Refused}
-use Rattle.steps.specs.declared.Point.{Point}
-use Rattle.steps.specs.declared.Point.the-variants.{Look}
-use Rattle.steps.specs.declared.State.{State}
-use Rattle.steps.specs.declared.State.the-variants.{Idle, UnderWay, Finished}
-use Rattle.steps.specs.declared.Worker.{Worker}
 
 -- by the state
 abbrev pub onState : {A : Type 0} → State → A → (Point → A) → (Answer → A) → A

@@ -1,17 +1,8 @@
 -- Document 01's example table: setup S, jobs A and B as bytes, and what each starred row says of the real calls.
-use Prim.Native.Nat.{ℕ, _-_}
-use mathlib.Core.Path.{_≡_}
-use mathlib.Core.List.{List, [], _∷_, _++_}
+mod Names
+use Names.*
 use Rattle.parts.specs.Told.{answerNumber}
-use Rattle.parts.specs.declared.Holder.{Holder}
-use Rattle.parts.specs.declared.Holder.the-variants.{Free, By}
-use Rattle.parts.specs.declared.Refusal.the-variants.{WorkerUnderWay, WorkerIdle}
-use Rattle.parts.specs.declared.Told.the-variants.{Accepted}
 use Rattle.engine.specs.Calls.{setupOf, beginOf, collectOf, readWordOf, readLockOf}
-use Rattle.engine.specs.declared.CollectTold.{CollectTold}
-use Rattle.engine.specs.declared.Engine.{Engine}
-use Rattle.engine.specs.declared.LockTold.{LockTold}
-use Rattle.engine.specs.declared.WordTold.{WordTold}
 use Rattle.past.specs.Past.{Call, Begin, Step, Drop, afterAll, steps}
 use Rattle.refusals.specs.Orders.{Refusing}
 

@@ -1,25 +1,12 @@
 -- The eight instructions, worked: each in each of its cases, from a setup record's bytes and a job record's bytes through setup, begin,
 -- step, collect, the readers and park. A job alone and a step share their meanings, so that no theorem about the two can tell one
 -- meaning from another; the numbers here were worked out by hand from document 01, and do.
-use Prim.Native.Nat.{ℕ, _-_}
-use mathlib.Core.Path.{_≡_}
-use mathlib.Core.Bool.{Bool, true, false}
-use mathlib.Core.List.{List, [], _∷_, map}
-use lib.ListN.{replicate}
+mod Names
+use Names.*
 use Rattle.arrays.specs.Fresh.{valuesOf}
-use Rattle.parts.specs.Pick.{pick}
-use Rattle.parts.specs.declared.Answer.the-variants.{RanYes, RanNo}
-use Rattle.parts.specs.declared.Holder.the-variants.{Free}
-use Rattle.parts.specs.declared.Told.the-variants.{Accepted}
-use Rattle.parts.specs.declared.Word.{Word}
 use Rattle.records.specs.Job.{jobOf}
 use Rattle.alone.specs.Alone.{aloneOf}
 use Rattle.engine.specs.Calls.{setupOf, collectOf, readWordOf, readLockOf, parkOf, parkedOf}
-use Rattle.engine.specs.declared.CollectTold.{CollectTold}
-use Rattle.engine.specs.declared.Engine.{Engine}
-use Rattle.engine.specs.declared.LockTold.{LockTold}
-use Rattle.engine.specs.declared.WordTold.{WordTold}
-use Rattle.engine.specs.declared.WriteTold.{WriteTold}
 use Rattle.past.specs.Past.{Begin, afterAll, steps}
 use Rattle.tables.specs.Table.{StillUnderWay}
 

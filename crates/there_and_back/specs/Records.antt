@@ -1,17 +1,11 @@
 -- Demand 2, records: what show writes is the record that begin took, byte for byte; what park writes setup takes, with the same values,
 -- guards and turns. Stated over histories from any setup, in which every record is a string of bytes.
-use Prim.Native.Nat.{ℕ, _≤_}
-use mathlib.Core.Path.{_≡_}
-use mathlib.Core.Bool.{true}
-use mathlib.Core.List.{List, [], _∷_, _++_}
-use lib.ListN.{length, drop}
+mod Names
+use Names.*
 use Rattle.arrays.specs.Fresh.{guardsOf, valuesOf, turnsOf}
-use Rattle.parts.specs.declared.Told.the-variants.{Accepted}
 use Rattle.records.specs.Bytes.{AllBytes}
 use Rattle.engine.specs.State.{inUse, freeSheet, wordsOf, locksOf, stateRecord}
 use Rattle.engine.specs.Calls.{setupOf, beginOf, showOf, shownOf, parkOf, parkedOf}
-use Rattle.engine.specs.declared.Engine.{Engine}
-use Rattle.engine.specs.declared.WriteTold.{WriteTold}
 use Rattle.past.specs.Past.{Call, after, afterAll, AllRecords, Past, stateAfter}
 
 -- sheet s is in use all along a history from state e

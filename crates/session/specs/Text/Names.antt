@@ -1,0 +1,11 @@
+-- What Text.antt goes by and does not list itself: the library's symbols, the generated types and their cases.
+pub use Prim.Native.Nat.{ℕ, zero, suc, _+_, _*_, _/_, _%_, _≤_, min}
+pub use mathlib.Core.Path.{_≡_}
+pub use mathlib.Core.List.{List, [], _∷_, _++_}
+pub use lib.Dec.{eqb, ltb}
+pub use lib.ListN.{length, take}
+pub use Rattle.parts.specs.declared.Holder.{Holder}
+pub use Rattle.parts.specs.declared.Refusal.{Refusal}
+pub use Rattle.parts.specs.declared.Told.{Told}
+pub use Rattle.session.specs.declared.text.Tail.{Tail}
+pub use Rattle.session.specs.declared.text.Tail.the-variants.{Nothing, Steps, Answer, Word, Lock, Bytes}
