@@ -28,6 +28,8 @@ refusalNumber Buffer = 13
 refusalNumber SheetFree = 14
 refusalNumber (Held l) = 15
 refusalNumber NoWord = 16
+-- request 01: a record that makes no call
+refusalNumber CallRecord = 17
 
 -- the table's "place"
 unfoldable pub refusalPlace : Refusal → ℕ
@@ -47,6 +49,7 @@ refusalPlace Buffer = 0
 refusalPlace SheetFree = 0
 refusalPlace (Held l) = l
 refusalPlace NoWord = 0
+refusalPlace CallRecord = 0
 
 -- of what a call told: where it was accepted; where it was refused
 abbrev pub onTold : {A : Type 0} → Told → A → (Refusal → A) → A

@@ -48,6 +48,7 @@ pub enum Refusal {
     SheetFree,
     Held(usize),
     NoWord,
+    CallRecord,
 }
 
 // What a call tells that has no more to tell than whether it was accepted.
@@ -149,6 +150,7 @@ impl Refusal {
             Refusal::SheetFree => 14,
             Refusal::Held(_) => 15,
             Refusal::NoWord => 16,
+            Refusal::CallRecord => 17,
         }
     }
 
@@ -172,6 +174,7 @@ impl Refusal {
             Refusal::SheetFree => 0,
             Refusal::Held(lock) => lock,
             Refusal::NoWord => 0,
+            Refusal::CallRecord => 0,
         }
     }
 }

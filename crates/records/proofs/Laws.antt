@@ -7,15 +7,17 @@ use native.Mathlib.Numerals.{add-one}
 use native.Mathlib.Nat.{add-assoc}
 use native.Mathlib.Omega.{arith}
 use lib.Dec.{eqb, leb, ltb}
-use lib.ListN.{length, getD, take, drop, length-drop, drop-of-length-le}
+use lib.ListN.{length, getD, set, take, drop, length-drop, drop-of-length-le}
 use lib.Seq.{drop-cons, take-all}
 use borrow.Author.Tests.{ltb-false, eqb-true}
+use Rattle.parts.specs.Lay.{lay}
 use Rattle.parts.specs.Numbers.{lastTurn}
 use Rattle.parts.specs.Pick.{pick, _or_}
 use Rattle.parts.specs.Told.{_then_, refuseIf}
 use Rattle.parts.specs.declared.Refusal.the-variants.{Length, Range}
 use Rattle.parts.specs.declared.Told.{Told}
 use Rattle.parts.specs.declared.Told.the-variants.{Accepted}
+use Rattle.parts.proofs.Lay.{lay-step}
 use Rattle.records.specs.Bytes.{u32Of, u32sOf, lengthField, lengthTold}
 use Rattle.records.specs.Job.{instrsOf, firstTold, codeTold}
 use Rattle.records.specs.Setup.{guardsTold, turnsTold}
@@ -45,6 +47,14 @@ part-end n s = take-all (length s - n) (drop n s) (simp (length-drop n s) (omega
 
 pub part-of : (a n : ℕ) (s : List ℕ) → take (a + n - a) (drop a s) ≡ take n (drop a s)
 part-of a n s = let e : a + n - a ≡ n = omega arith in simp e
+
+-- byte j of a list that is laid, and those after it
+pub bytes-turn :
+    (goal l bytes : List ℕ) (at j : ℕ) → j < length bytes → goal ≡ lay (at + j) (drop j bytes) l →
+    goal ≡ lay (at + (j + 1)) (drop (j + 1) bytes) (set l (at + j) (getD bytes j 0))
+bytes-turn goal l bytes at j h g =
+    lay-step goal l (drop (j + 1) bytes) (drop j bytes) (at + j) (at + (j + 1)) (getD bytes j 0) (omega arith)
+    (simp (drop-cons bytes j 0 h, add-one j)) g
 
 -- the first instruction, and those after it
 pub code-turn :

@@ -89,12 +89,14 @@ codeTold (i ∷ is) place lock guards =
 abbrev pub noJobLength : ℕ → Bool
 noJobLength n = (n % 4) isnt 0 or ltb n 8 or ltb (4 + 4 * instructions) n
 
--- "5 (fewer than 4 bytes, or length field other than the slice's length), 6, 5 (not 4 + 4n), then the lowest faulty instruction"
-unfoldable pub jobTold : List ℕ → ℕ → List ℕ → Told
-jobTold rec lock guards =
-    firstOf
-    (lengthTold rec ∷
+-- "5 (fewer than 4 bytes, or length field other than the slice's length), 6, 5 (not 4 + 4n)": is it a job record at all?
+abbrev pub formOrder : List ℕ → List Told
+formOrder rec =
+    lengthTold rec ∷
     refuseIf (kindField rec isnt jobKind) Kind ∷
     refuseIf (noJobLength (length rec)) Length ∷
-    codeTold (jobOf rec) 0 lock guards ∷
-    [])
+    []
+
+-- "then the lowest faulty instruction"
+unfoldable pub jobTold : List ℕ → ℕ → List ℕ → Told
+jobTold rec lock guards = firstOf (formOrder rec ++ (codeTold (jobOf rec) 0 lock guards ∷ []))

@@ -4,7 +4,8 @@ ghost use Prim.Native.Nat.{_≤_};
 ghost use lib.Dec.{leb, ltb};
 ghost use lib.ListN.{length};
 ghost use Rattle.parts.specs.Pick.{_or_};
-ghost use Rattle.records.specs.Job.{firstInstr, instrsOf, jobOf, noRegister, badlyFormed, endsOtherwise, strays, straysAt, instrTold, firstTold, codeTold, noJobLength, jobTold};
+ghost use Rattle.parts.specs.Told.{firstOf};
+ghost use Rattle.records.specs.Job.{firstInstr, instrsOf, jobOf, noRegister, badlyFormed, endsOtherwise, strays, straysAt, instrTold, firstTold, codeTold, noJobLength, formOrder, jobTold};
 use parts::INSTRUCTIONS;
 use parts::Instr;
 use parts::Refusal;
@@ -204,7 +205,7 @@ pub fn code_told(code: &[u8], lock: u8, guards: &[u8]) -> Told
 }
 
 // No 4 + 4n with n from 1 to the most instructions.
-fn no_job_length(n: usize) -> bool
+pub fn no_job_length(n: usize) -> bool
     ensures { λ r. ⌜ r ≡ noJobLength n ⌝ }
 {
     if n % 4 != 0 {
@@ -224,10 +225,9 @@ fn body_told(rec: &[u8], lock: u8, guards: &[u8]) -> Told
     code_told(&rec[4..], lock, guards)
 }
 
-// A job record for a lock, with the guards of the words: "5 (fewer than 4 bytes, or length field other than the slice's
-// length), 6, 5 (not 4 + 4n), then the lowest faulty instruction".
-pub fn job_told(rec: &[u8], lock: u8, guards: &[u8]) -> Told
-    ensures { λ r. ⌜ r ≡ jobTold (now (rec .entry)) lock (now (guards .entry)) ⌝ }
+// Is it a job record at all? "5 (fewer than 4 bytes, or length field other than the slice's length), 6, 5 (not 4 + 4n)".
+pub fn form_told(rec: &[u8]) -> Told
+    ensures { λ r. ⌜ r ≡ firstOf (formOrder (now (rec .entry))) ⌝ }
 {
     let told = crate::length_told(rec);
     match told {
@@ -241,5 +241,16 @@ pub fn job_told(rec: &[u8], lock: u8, guards: &[u8]) -> Told
     if no_job_length(rec.len()) {
         return Told::Refused(Refusal::Length);
     }
-    body_told(rec, lock, guards)
+    Told::Accepted
+}
+
+// A job record for a lock, with the guards of the words: then the lowest faulty instruction.
+pub fn job_told(rec: &[u8], lock: u8, guards: &[u8]) -> Told
+    ensures { λ r. ⌜ r ≡ jobTold (now (rec .entry)) lock (now (guards .entry)) ⌝ }
+{
+    let told = form_told(rec);
+    match told {
+        Told::Refused(_) => told,
+        Told::Accepted => body_told(rec, lock, guards),
+    }
 }

@@ -5,7 +5,7 @@ ghost use Prim.Native.Nat.{_+_, _<_, _≤_};
 ghost use mathlib.Core.List.{[], _∷_};
 ghost use lib.ListN.{length};
 ghost use Rattle.parts.specs.Lay.{lay};
-ghost use Rattle.records.specs.Bytes.{u16Of, u32Of, u32At, lengthTold, kindField, header, u32sBytes};
+ghost use Rattle.records.specs.Bytes.{u16Of, u32Of, u32At, lengthField, lengthTold, kindField, header, u32sBytes};
 
 pub mod job;
 pub mod setup;
@@ -35,6 +35,14 @@ pub fn u32_at(s: &[u8], at: usize) -> u32
     u32_of(s[at], s[at + 1], s[at + 2], s[at + 3])
 }
 
+// The length field, which is bytes 0 and 1.
+pub fn length_of(rec: &[u8]) -> usize
+    requires { ⌜ 2 ≤ length (now rec) ⌝ }
+    ensures { λ r. ⌜ r ≡ lengthField (now (rec .entry)) ⌝ }
+{
+    u16_of(rec[0], rec[1])
+}
+
 // Refusal 5 where there are fewer than 4 bytes, or the length field is not their number.
 pub fn length_told(rec: &[u8]) -> Told
     ensures { λ r. ⌜ r ≡ lengthTold (now (rec .entry)) ⌝ }
@@ -43,7 +51,7 @@ pub fn length_told(rec: &[u8]) -> Told
     if n < 4 {
         return Told::Refused(Refusal::Length);
     }
-    let len = u16_of(rec[0], rec[1]);
+    let len = length_of(rec);
     if len == n {
         return Told::Accepted;
     }
@@ -79,6 +87,18 @@ pub fn put_u32(buf: &mut [u8], at: usize, x: u32)
     let c = (x / 65536 % 256) as u8;
     let d = (x / 16777216 % 256) as u8;
     put_four(buf, at, a, b, c, d);
+}
+
+// Bytes from `at` on.
+pub fn put_bytes(bytes: &[u8], buf: &mut [u8], at: usize)
+    requires { ⌜ at + length (now bytes) ≤ length (now buf) ⌝ }
+    ensures { λ _. ⌜ now (buf .exit) ≡ lay at (now (bytes .entry)) (now (buf .entry)) ⌝ }
+{
+    let mut j: usize = 0;
+    while j < bytes.len() {
+        buf[at + j] = bytes[j];
+        j += 1;
+    }
 }
 
 // The four bytes before a record's body.

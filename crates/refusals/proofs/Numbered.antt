@@ -1,5 +1,5 @@
 -- A refusal's number and place tell it, and an answer's number the answer: no two have the same. The numbers are document 01's,
--- from 1 to 16.
+-- from 1 to 16, and request 01's 17.
 use Prim.Native.Nat.{ℕ, _≤_}
 use mathlib.Core.Path.{_≡_, refl, _∙_, sym, ap}
 use mathlib.Core.Logic.{_↔_}
@@ -12,7 +12,7 @@ use Rattle.parts.specs.declared.Answer.the-variants.{RanYes, RanNo, NotTaken}
 use Rattle.parts.specs.declared.Refusal.{Refusal}
 use Rattle.parts.specs.declared.Told.{Told}
 use Rattle.parts.specs.declared.Told.the-variants.{Accepted, Refused}
-use Rattle.parts.specs.declared.Refusal.the-variants.{NoWorker, NoLock, WorkerUnderWay, NotCollected, Length, Kind, Instruction, Guard, LastTurn, NoSheet, WorkerIdle, Range, Buffer, SheetFree, Held, NoWord}
+use Rattle.parts.specs.declared.Refusal.the-variants.{NoWorker, NoLock, WorkerUnderWay, NotCollected, Length, Kind, Instruction, Guard, LastTurn, NoSheet, WorkerIdle, Range, Buffer, SheetFree, Held, NoWord, CallRecord}
 use Rattle.refusals.specs.Orders.{Refuses}
 
 -- the refusal of a number and a place, and the answer of a number
@@ -33,7 +33,8 @@ refusalAt n p =
     (pick (eqb n 13) Buffer
     (pick (eqb n 14) SheetFree
     (pick (eqb n 15) (Held p)
-    NoWord))))))))))))))
+    (pick (eqb n 16) NoWord
+    CallRecord)))))))))))))))
 
 unfoldable answerAt : ℕ → Answer
 answerAt n = pick (eqb n 1) RanYes (pick (eqb n 2) RanNo NotTaken)
@@ -56,6 +57,7 @@ refusal-back Buffer = refl
 refusal-back SheetFree = refl
 refusal-back (Held p) = refl
 refusal-back NoWord = refl
+refusal-back CallRecord = refl
 
 answer-back : (a : Answer) → answerAt (answerNumber a) ≡ a
 unfolding answerAt answerNumber
@@ -71,8 +73,8 @@ number-one r s h k = sym (refusal-back r) ∙ rw (h, k) (refusal-back s)
 pub answer-one : (a b : Answer) → answerNumber a ≡ answerNumber b → a ≡ b
 answer-one a b h = sym (answer-back a) ∙ rw h (answer-back b)
 
--- "No." goes from 1 to 16
-pub number-range : (r : Refusal) → (1 ≤ refusalNumber r) × (refusalNumber r ≤ 16)
+-- "No." goes from 1 to 16, and request 01 adds 17
+pub number-range : (r : Refusal) → (1 ≤ refusalNumber r) × (refusalNumber r ≤ 17)
 unfolding refusalNumber
 number-range NoWorker = (omega arith, omega arith)
 number-range NoLock = (omega arith, omega arith)
@@ -90,6 +92,7 @@ number-range Buffer = (omega arith, omega arith)
 number-range SheetFree = (omega arith, omega arith)
 number-range (Held p) = (omega arith, omega arith)
 number-range NoWord = (omega arith, omega arith)
+number-range CallRecord = (omega arith, omega arith)
 
 -- a call is refused with a refusal's number and place exactly when it is refused with it
 pub by-number :

@@ -1,7 +1,7 @@
 -- What Job.antt goes by and does not list itself: the library's symbols, the generated types and their cases.
 pub use Prim.Native.Nat.{ℕ, _+_, _-_, _*_, _/_, _%_}
 pub use mathlib.Core.Bool.{Bool, true, false}
-pub use mathlib.Core.List.{List, [], _∷_}
+pub use mathlib.Core.List.{List, [], _∷_, _++_}
 pub use lib.Dec.{eqb, leb, ltb}
 pub use lib.ListN.{length, getD, drop}
 pub use Rattle.parts.specs.declared.Instr.{Instr}

@@ -1,23 +1,16 @@
--- Each return is what the definition picks on the way that led there.
+-- By what `form_told` told.
 use borrow.Author.Needs.{needs}
-use Rattle.records.specs.Job.{jobTold}
-use Rattle.parts.proofs.Laws.{calls, laws, order}
-use Rattle.records.proofs.Laws.{length-four}
+use Rattle.records.proofs.Form.{form-four, job-stop, job-pass}
 use Rattle.records.proofs.job.job_told.Statement.{statement}
 use Rattle.records.proofs.job.job_told.Tie as tie
 
 pub job-told-spec : {M : Type 1} → statement M
-unfolding jobTold
 job-told-spec =
     tie.close
     (tie.spec
     (λ c κs. search needs)
     (λ c. search needs)
-    (λ c. search (laws, calls, order) depth 10)
     (λ c. search needs)
-    (λ c κs. search length-four)
-    (λ c. search (laws, calls, order) depth 10)
-    (λ c κs. search needs)
-    (λ c. search (laws, calls, order) depth 10)
-    (λ c κs. search length-four)
-    (λ c. search (laws, calls, order) depth 10))
+    (λ c κs. search form-four)
+    (λ c. search (job-stop, job-pass) depth 8)
+    (λ c. search (job-stop, job-pass) depth 8))
