@@ -1,0 +1,16 @@
+-- What is put is the text of each call, one after the other.
+use borrow.Author.Needs.{needs}
+use Rattle.text.specs.Text.{numberText}
+use Rattle.text.proofs.Written.{writing}
+use Rattle.text.proofs.put_number.Statement.{statement}
+use Rattle.text.proofs.put_number.Tie as tie
+
+pub put-number-spec : {M : Type 1} → statement M
+unfolding numberText
+put-number-spec =
+    tie.close
+    (tie.spec
+    (λ c κs. search needs)
+    (λ c κs. search needs)
+    (λ c. search needs)
+    (λ c. search (writing, needs)))
