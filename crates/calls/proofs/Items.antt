@@ -1,7 +1,8 @@
 -- What stands at a place, on each way.
 use Prim.Native.Nat.{ℕ, _+_, _-_, _≤_, _<_}
-use mathlib.Core.Path.{_≡_, _∙_, sym, ap}
+use mathlib.Core.Path.{_≡_, refl, _∙_, sym, ap}
 use mathlib.Core.List.{List}
+use native.Mathlib.Omega.{arith}
 use lib.ListN.{length, take, drop}
 use borrow.Author.Tests.{le-leb, lt-leb}
 use Rattle.parts.specs.declared.Refusal.{Refusal}
@@ -47,3 +48,48 @@ pub past-by :
     n ≡ pastAt bytes place
 unfolding pastAt
 past-by i t bytes place n e f q = q ∙ ap (λ (i : Item). pastItem i (length bytes) place) (sym f ∙ e)
+
+-- what a callee found at a place before the end
+module _ (bytes : List ℕ) (place : ℕ) (i : Item) (k : place < length bytes) (q : i ≡ itemAt bytes place) where
+  abbrev here : List ℕ
+  here = drop place bytes
+
+  found : frontItem here place ≡ i
+  found = sym (q ∙ item-front bytes place k)
+
+  pub at-record :
+      (from to : ℕ) → i ≡ Item.Record from to →
+      (recordTold here ≡ Accepted) × (from ≡ place) × (pastAt bytes place ≡ place + lengthField here)
+  unfolding frontItem pastAt
+  at-record from to h = go (recordTold here) refl
+    where
+      go :
+          (t : Told) → recordTold here ≡ t →
+          (recordTold here ≡ Accepted) × (from ≡ place) × (pastAt bytes place ≡ place + lengthField here)
+      go Accepted e =
+          let f : i ≡ Item.Record place (place + lengthField here) = sym found ∙ simp e in
+          (e, cc, ap (λ (j : Item). pastItem j (length bytes) place) (sym q ∙ f))
+      go (Refused r) e = let f : i ≡ Item.Refused r = sym found ∙ simp e in let z : _≡_ {A = ℕ} 0 1 = cc in absurd (omega arith)
+
+  pub at-refused : (r : Refusal) → i ≡ Item.Refused r → recordTold here ≡ Refused r
+  unfolding frontItem
+  at-refused r h = go (recordTold here) refl
+    where
+      go : (t : Told) → recordTold here ≡ t → recordTold here ≡ Refused r
+      go Accepted e =
+          let f : i ≡ Item.Record place (place + lengthField here) = sym found ∙ simp e in
+          let z : _≡_ {A = ℕ} 0 1 = cc in
+          absurd (omega arith)
+      go (Refused s) e = let f : i ≡ Item.Refused s = sym found ∙ simp e in let g : s ≡ r = cc in e ∙ ap Refused g
+
+  pub no-end : i ≡ Item.End → ⊥
+  unfolding frontItem
+  no-end h = go (recordTold here) refl
+    where
+      go : (t : Told) → recordTold here ≡ t → ⊥
+      go Accepted e =
+          let f : i ≡ Item.Record place (place + lengthField here) = sym found ∙ simp e in
+          let z : _≡_ {A = ℕ} 0 1 = cc in
+          absurd (omega arith)
+      go (Refused s) e =
+          let f : i ≡ Item.Refused s = sym found ∙ simp e in let z : _≡_ {A = ℕ} 0 1 = cc in absurd (omega arith)

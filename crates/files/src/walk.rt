@@ -1,0 +1,118 @@
+// The walk over a file, and the text of its lines.
+ghost use mathlib.Core.Path.{_≡_};
+ghost use Prim.Native.Nat.{_+_, _≤_};
+ghost use mathlib.Core.List.{[], _∷_, _++_};
+ghost use lib.ListN.{length, drop};
+ghost use Rattle.text.specs.Text.{Puts, newline, decimalOf, numberText, pairText};
+ghost use Rattle.files.specs.File.{mostFile, walkFrom, lineText, linesText, numberLine, noSetup, setupText, printedOf};
+ghost use Rattle.files.specs.Made.{mostText};
+use crate::make::Line;
+use crate::make::make;
+use crate::make::refused_line;
+use calls::reader::Item;
+use calls::reader::hand_out;
+use engine::Engine;
+use parts::Refusal;
+use parts::Told;
+
+// A line's index and its refusal number.
+fn put_start(out: &mut [u8], at: usize, index: u32, number: u32) -> usize
+    requires { ⌜ at + 41 ≤ length (now out) ⌝ }
+    ensures { λ r. ⌜ Puts at 41 (decimalOf index ++ numberText number) (now (out .entry)) (now (out .exit)) r ⌝ }
+{
+    let next = text::put_decimal(out, at, index as u64);
+    text::put_number(out, next, number as u64)
+}
+
+// Its answer and steps, and its end.
+fn put_end(out: &mut [u8], at: usize, answer: u32, steps: u32) -> usize
+    requires { ⌜ at + 43 ≤ length (now out) ⌝ }
+    ensures { λ r. ⌜ Puts at 43 (pairText answer steps ++ (newline ∷ [])) (now (out .entry)) (now (out .exit)) r ⌝ }
+{
+    let next = text::put_pair(out, at, answer as u64, steps as u64);
+    text::put(out, next, 10)
+}
+
+fn put_line(out: &mut [u8], at: usize, index: u32, line: Line) -> usize
+    requires { ⌜ at + 84 ≤ length (now out) ⌝ }
+    ensures { λ r. ⌜ Puts at 84 (lineText index line) (now (out .entry)) (now (out .exit)) r ⌝ }
+{
+    let next = put_start(out, at, index, line.number);
+    put_end(out, next, line.answer, line.steps)
+}
+
+// The call records from byte `from` on, on a state.
+fn walk(file: &[u8], from: usize, start: Engine, out: &mut [u8]) -> usize
+    requires { ⌜ (from ≤ length (now file)) × (length (now file) ≤ mostFile) × (mostText ≤ length (now out)) ⌝ }
+    ensures { λ r. ⌜ Puts 0 mostText (linesText 0 (walkFrom 0 start (drop from (now (file .entry))) .lines)) (now (out .entry)) (now (out .exit)) r ⌝ }
+{
+    let mut engine = start;
+    let mut place = from;
+    let mut index: u32 = 0;
+    let mut at: usize = 0;
+    while place < file.len() {
+        let handed = hand_out(file, place);
+        let item = handed.item;
+        match item {
+            Item::End => return at,
+            Item::Refused(r) => return put_line(out, at, index, refused_line(r)),
+            Item::Record(here, _) => {
+                let made = make(engine, &file[here..]);
+                at = put_line(out, at, index, made.line);
+                engine = made.engine;
+                place = handed.place;
+                index += 1;
+                continue;
+            }
+        }
+    }
+    at
+}
+
+// A number alone on a line.
+fn put_alone(out: &mut [u8], r: Refusal) -> usize
+    requires { ⌜ 21 ≤ length (now out) ⌝ }
+    ensures { λ n. ⌜ Puts 0 21 (numberLine r) (now (out .entry)) (now (out .exit)) n ⌝ }
+{
+    let number = r.number();
+    let next = text::put_decimal(out, 0, number as u64);
+    text::put(out, next, 10)
+}
+
+// "Standard input above 65,536 bytes, or else a setup cut short."
+fn no_setup(file: &[u8]) -> bool
+    ensures { λ r. ⌜ r ≡ noSetup (now (file .entry)) ⌝ }
+{
+    if 65536 < file.len() {
+        return true;
+    }
+    if file.len() < 2 {
+        return true;
+    }
+    let n = records::length_of(file);
+    file.len() < n
+}
+
+// The file's first n bytes are its setup record; the rest is walked where that is accepted.
+fn on_setup(file: &[u8], n: usize, out: &mut [u8]) -> usize
+    requires { ⌜ (n ≤ length (now file)) × (length (now file) ≤ mostFile) × (mostText ≤ length (now out)) ⌝ }
+    ensures { λ r. ⌜ Puts 0 mostText (setupText (now (file .entry)) n) (now (out .entry)) (now (out .exit)) r ⌝ }
+{
+    let done = Engine::setup(&file[..n]);
+    let told = done.told;
+    match told {
+        Told::Refused(r) => put_alone(out, r),
+        Told::Accepted => walk(file, n, done.engine, out),
+    }
+}
+
+// What the program `replay` prints of a file: how many bytes, at the front of the buffer.
+pub fn replay(file: &[u8], out: &mut [u8; 688128]) -> usize
+    ensures { λ r. ⌜ Puts 0 mostText (printedOf (now (file .entry))) (now (out .entry)) (now (out .exit)) r ⌝ }
+{
+    if no_setup(file) {
+        return put_alone(out, Refusal::Length);
+    }
+    let n = records::length_of(file);
+    on_setup(file, n, out)
+}
