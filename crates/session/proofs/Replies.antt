@@ -1,5 +1,6 @@
--- What is told of a call, by what the callees ensure: one turn and the end of the steps, an answer, and what a writer was lent.
-use Prim.Native.Nat.{ℕ, zero, suc, _+_, _-_, _≤_, _<_}
+-- What is told of a call, by what the callees ensure: one turn and the end of the steps, an answer, and what a writer was lent, with
+-- its text.
+use Prim.Native.Nat.{ℕ, zero, suc, _+_, _*_, _-_, _≤_, _<_}
 use mathlib.Core.Path.{_≡_, _∙_, sym, ap}
 use mathlib.Core.List.{List, _++_}
 use native.Mathlib.Omega.{arith}
@@ -13,12 +14,13 @@ use Rattle.parts.specs.Told.{answerNumber}
 use Rattle.parts.specs.declared.Answer.{Answer}
 use Rattle.parts.specs.declared.Refusal.{Refusal}
 use Rattle.parts.specs.declared.Told.the-variants.{Accepted, Refused}
-use Rattle.session.specs.Line.{mostBytes}
+use Rattle.script.proofs.Laws.{first-count}
+use Rattle.text.specs.Text.{Puts, mostBytes, numberText, bytesText}
+use Rattle.text.proofs.Written.{puts-two, puts-same}
 use Rattle.session.specs.Reply.{filledWith, plainOf, stepsFrom, scriptCollect, scriptWrite, scriptShow, scriptPark}
-use Rattle.session.specs.Text.{lentOf}
+use Rattle.session.specs.ReplyText.{lentOf, mostTail}
 use Rattle.session.specs.declared.obey.Reply.{Reply}
-use Rattle.session.specs.declared.text.Tail.the-variants.{Steps, Answer as Tail·Answer}
-use Rattle.session.proofs.Laws.{first-count}
+use Rattle.session.specs.declared.reply_text.Tail.the-variants.{Steps, Answer as Tail·Answer}
 
 -- a function by cases, f, at a value whose case is known, with two and with three more arguments
 pub case-two :
@@ -122,3 +124,13 @@ parked-by e n k t l xs r g h p q z y =
     let a : length (take k l) ≡ lentOf n = lent-length k n l z y in
     let b : k ≡ lentOf n = y .0 in
     cc
+
+pub lent-by :
+    (n k at m r w : ℕ) (bytes a b c : List ℕ) →
+    k ≡ lentOf n →
+    Puts at 21 (numberText w) a b m →
+    Puts m (1 + 2 * mostBytes) (bytesText (take k bytes)) b c r →
+    Puts at mostTail (numberText w ++ bytesText (take (lentOf n) bytes)) a c r
+lent-by n k at m r w bytes a b c e p q =
+    puts-same at r _ _ _ _ a c (puts-two at m r 21 _ (numberText w) (bytesText (take k bytes)) a b c p q)
+    (ap (λ (i : ℕ). numberText w ++ bytesText (take i bytes)) e) (omega arith)

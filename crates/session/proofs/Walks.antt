@@ -7,13 +7,14 @@ use native.Mathlib.Omega.{arith}
 use lib.ListN.{length}
 use Rattle.engine.specs.declared.Engine.{Engine}
 use Rattle.parts.specs.Lay.{lay}
-use Rattle.session.specs.Line.{lineOf}
+use Rattle.script.specs.Line.{lineOf}
+use Rattle.script.specs.declared.Call.{Call}
+use Rattle.script.specs.declared.Line.{Line}
+use Rattle.script.specs.declared.Line.the-variants.{Passed, Makes, Bad}
+use Rattle.text.specs.Text.{Puts}
 use Rattle.session.specs.Reply.{replyOf}
-use Rattle.session.specs.Text.{Puts, mostReply, badText}
+use Rattle.session.specs.ReplyText.{mostReply, badText}
 use Rattle.session.specs.Walk.{textOf, saidOf, tellOf, LineTells}
-use Rattle.session.specs.declared.line.Call.{Call}
-use Rattle.session.specs.declared.line.Line.{Line}
-use Rattle.session.specs.declared.line.Line.the-variants.{Passed, Makes, Bad}
 use Rattle.session.specs.declared.obey.Reply.{Reply}
 use Rattle.session.specs.declared.walk.Said.{Said}
 

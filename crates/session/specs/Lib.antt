@@ -1,4 +1,3 @@
-pub mod Line
-pub mod Text
+pub mod ReplyText
 pub mod Reply
 pub mod Walk

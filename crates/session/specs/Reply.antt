@@ -3,8 +3,9 @@ mod Names
 use Names.*
 use Rattle.engine.specs.Calls.{setupOf, beginOf, stepOf, collectOf, dropOf, readWordOf, readLockOf, showOf, shownOf, parkOf, parkedOf}
 use Rattle.parts.specs.Told.{onTold, answerNumber}
-use Rattle.session.specs.Line.{mostBytes, afterWord, recordIn}
-use Rattle.session.specs.Text.{lentOf}
+use Rattle.script.specs.Line.{afterWord, recordIn}
+use Rattle.text.specs.Text.{mostBytes}
+use Rattle.session.specs.ReplyText.{lentOf}
 
 -- 512 bytes x
 unfoldable pub filledWith : ℕ → List ℕ

@@ -2,9 +2,10 @@
 mod Names
 use Names.*
 use Rattle.parts.specs.Lay.{lay}
-use Rattle.session.specs.Line.{newline, beforeOf}
+use Rattle.script.specs.Line.{beforeOf}
+use Rattle.text.specs.Text.{newline}
 use Rattle.session.specs.Reply.{replyOf}
-use Rattle.session.specs.Text.{mostReply, replyText, badText}
+use Rattle.session.specs.ReplyText.{mostReply, replyText, badText}
 
 -- what is written of a reply, by the number of its line
 abbrev pub textOf : ℕ → Reply → List ℕ

@@ -4,11 +4,8 @@ ghost use lib.ListN.{length};
 ghost use Rattle.engine.specs.Calls.{setupOf, beginOf, collectOf, dropOf, readWordOf, readLockOf};
 ghost use Rattle.session.specs.Reply.{quietOf, stepsFrom, scriptCollect, scriptWord, scriptLock, scriptWrite, scriptShow, scriptPark};
 ghost use Rattle.session.specs.Reply.{filledWith, plainOf, setupRecordIn, fourthWord, beginRecordIn, replyOf};
-use crate::line::Call;
-use crate::line::after;
-use crate::line::record_of;
-use crate::text::Tail;
-use crate::text::lent;
+use crate::reply_text::Tail;
+use crate::reply_text::lent;
 use engine::CollectTold;
 use engine::Engine;
 use engine::LockTold;
@@ -17,6 +14,9 @@ use engine::WordTold;
 use engine::WriteTold;
 use parts::Holder;
 use parts::Told;
+use script::Call;
+use script::after;
+use script::record_of;
 
 // What a call gives: the next state, whether it was accepted, what else it told, and the bytes that a writer was lent.
 pub struct Reply {

@@ -1,14 +1,14 @@
 // The walk over the script, a line at a time.
-ghost use Rattle.session.specs.Line.{lineOf};
+ghost use Rattle.script.specs.Line.{lineOf};
 ghost use Rattle.session.specs.Walk.{LineTells, lineAt};
-use crate::line::Call;
-use crate::line::Line;
-use crate::line::before;
-use crate::line::line_of;
 use crate::obey::obey;
-use crate::text::put_bad;
-use crate::text::put_reply;
+use crate::reply_text::put_bad;
+use crate::reply_text::put_reply;
 use engine::Engine;
+use script::Call;
+use script::Line;
+use script::before;
+use script::line_of;
 
 // What a line gave: the next state, how many bytes of text, and whether it ended the run.
 pub struct Said {

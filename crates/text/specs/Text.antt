@@ -1,4 +1,4 @@
--- What is written: numbers in decimal, with a space before each, bytes in hexadecimal, and what a call told.
+-- What is written: numbers in decimal, bytes in hexadecimal, and what a call told; and what it is to put a text into a buffer.
 mod Names
 use Names.*
 use Rattle.parts.specs.Lay.{lay}
@@ -15,7 +15,7 @@ space = 32
 abbrev pub dash : ℕ
 dash = 45
 
--- bytes are put up to 512 at once
+-- no more than 512 bytes are put at once
 abbrev pub mostBytes : ℕ
 mostBytes = 512
 

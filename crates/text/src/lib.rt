@@ -1,5 +1,5 @@
-// Text in decimal and hexadecimal: numbers with a space before each, bytes, and what a call told. Each writer puts its text into a lent
-// buffer from a place on and gives the place after it.
+// Numbers in decimal, bytes in hexadecimal, and what a call told, as text. Each writer puts its text into a lent buffer from a place
+// on and gives the place after it.
 ghost use mathlib.Core.Path.{_≡_};
 ghost use Prim.Native.Nat.{_+_, _*_, _≤_, _<_};
 ghost use mathlib.Core.List.{[], _∷_, _++_};

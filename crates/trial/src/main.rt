@@ -1,8 +1,8 @@
 // Reads a script on standard input, makes its calls on the engine one a line, and writes what each tells.
 ghost use Prim.Native.Nat.{_≤_};
 use engine::Engine;
-use session::line::past;
-use session::text::put_bad;
+use script::past;
+use session::reply_text::put_bad;
 use session::walk::turn;
 
 // Writes the first n bytes of the text.

@@ -11,7 +11,7 @@ pub use Rattle.engine.specs.declared.WriteTold.{WriteTold}
 pub use Rattle.parts.specs.declared.Holder.the-variants.{Free}
 pub use Rattle.parts.specs.declared.Told.{Told}
 pub use Rattle.parts.specs.declared.Told.the-variants.{Accepted, Refused}
-pub use Rattle.session.specs.declared.line.Call.{Call}
+pub use Rattle.script.specs.declared.Call.{Call}
 pub use Rattle.session.specs.declared.obey.Reply.{Reply}
-pub use Rattle.session.specs.declared.text.Tail.{Tail}
-pub use Rattle.session.specs.declared.text.Tail.the-variants.{Nothing, Steps, Answer, Word, Lock, Bytes}
+pub use Rattle.session.specs.declared.reply_text.Tail.{Tail}
+pub use Rattle.session.specs.declared.reply_text.Tail.the-variants.{Nothing, Steps, Answer, Word, Lock, Bytes}

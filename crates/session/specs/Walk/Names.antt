@@ -5,7 +5,7 @@ pub use mathlib.Core.Bool.{true, false}
 pub use mathlib.Core.List.{List, []}
 pub use lib.ListN.{length}
 pub use Rattle.engine.specs.declared.Engine.{Engine}
-pub use Rattle.session.specs.declared.line.Line.{Line}
-pub use Rattle.session.specs.declared.line.Line.the-variants.{Passed, Makes, Bad}
+pub use Rattle.script.specs.declared.Line.{Line}
+pub use Rattle.script.specs.declared.Line.the-variants.{Passed, Makes, Bad}
 pub use Rattle.session.specs.declared.obey.Reply.{Reply}
 pub use Rattle.session.specs.declared.walk.Said.{Said}

@@ -1,6 +1,6 @@
 -- The first N bytes, at most 512, are lent, and the others kept.
 use borrow.Author.Needs.{needs}
-use Rattle.session.proofs.Laws.{first-count}
+use Rattle.script.proofs.Laws.{first-count}
 use Rattle.session.proofs.Replies.{shown-by}
 use Rattle.session.proofs.obey.on_show.Statement.{statement}
 use Rattle.session.proofs.obey.on_show.Tie as tie

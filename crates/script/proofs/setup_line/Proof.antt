@@ -1,0 +1,16 @@
+-- Each return is what the definition picks on the way that led there.
+use borrow.Author.Needs.{needs}
+use Rattle.script.specs.Line.{setupLine}
+use Rattle.parts.proofs.Laws.{laws, calls}
+use Rattle.script.proofs.Laws.{reading}
+use Rattle.script.proofs.setup_line.Statement.{statement}
+use Rattle.script.proofs.setup_line.Tie as tie
+
+pub setup-line-spec : {M : Type 1} → statement M
+unfolding setupLine
+setup-line-spec =
+    tie.close
+    (tie.spec
+    (λ c κs. search needs)
+    (λ c. search (laws, calls, reading) depth 8)
+    (λ c. search (laws, calls, reading) depth 8))
