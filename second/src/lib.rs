@@ -3,6 +3,8 @@
 
 pub mod alone;
 pub mod check;
+pub mod compare;
 pub mod engine;
 pub mod generate;
+pub mod program;
 pub mod script;
