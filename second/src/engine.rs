@@ -5,7 +5,8 @@
 /// One instruction of a job: op, a, b, c.
 pub type Instruction = [u8; 4];
 
-/// A refusal: its number in the table, and its place.
+/// A refusal: its number in the table, or the 17 of a call record that
+/// request 01 adds; and its place.
 #[derive(Clone, Copy, PartialEq, Eq, Debug)]
 pub struct Refusal {
     pub number: u32,
@@ -19,7 +20,7 @@ fn refused_at<T>(number: u32, place: usize) -> Result<T, Refusal> {
 }
 
 /// A refusal that has place 0.
-fn refused<T>(number: u32) -> Result<T, Refusal> {
+pub(crate) fn refused<T>(number: u32) -> Result<T, Refusal> {
     refused_at(number, 0)
 }
 
@@ -66,7 +67,7 @@ struct Entry {
 
 /// A sheet's program (places past its length are zero) and its done mark.
 /// Its log stands among the engine's entries.
-#[derive(Clone, Copy, Debug)]
+#[derive(Clone, Copy, PartialEq, Eq, Debug)]
 struct Sheet {
     program: [Instruction; Engine::INSTRUCTIONS],
     length: usize,
@@ -214,7 +215,7 @@ pub enum Wrong {
 }
 
 /// The whole state.
-#[derive(Clone, Debug)]
+#[derive(Clone, PartialEq, Eq, Debug)]
 pub struct Engine {
     words: Vec<Word>,
     locks: Vec<LockWord>,
@@ -632,7 +633,7 @@ fn worker_index(worker: u32) -> Result<usize, Refusal> {
 }
 
 /// The first four bytes of a record.
-fn header(length: usize, kind: u8) -> Vec<u8> {
+pub(crate) fn header(length: usize, kind: u8) -> Vec<u8> {
     let [low, high] = (length as u16).to_le_bytes();
     vec![low, high, kind, 0]
 }
@@ -647,7 +648,7 @@ fn write(record: &[u8], buffer: &mut [u8]) -> Result<usize, Refusal> {
 }
 
 /// Checks a record's length field, then its kind.
-fn check_header(record: &[u8], kind: u16) -> Result<(), Refusal> {
+pub(crate) fn check_header(record: &[u8], kind: u16) -> Result<(), Refusal> {
     if record.len() < 4 || usize::from(u16::from_le_bytes([record[0], record[1]])) != record.len() {
         return refused(5);
     }
@@ -658,15 +659,20 @@ fn check_header(record: &[u8], kind: u16) -> Result<(), Refusal> {
 }
 
 /// The instructions of a job record, its length being right.
-fn job_instructions(record: &[u8]) -> Result<Vec<Instruction>, Refusal> {
+pub(crate) fn job_instructions(record: &[u8]) -> Result<Vec<Instruction>, Refusal> {
     check_header(record, 1)?;
     let body = &record[4..];
-    let instructions = body.len() / 4;
-    if body.len() != 4 * instructions || !(1..=Engine::INSTRUCTIONS).contains(&instructions) {
+    if !whole_program(body) {
         return refused(5);
     }
     let four = |bytes: &[u8]| [bytes[0], bytes[1], bytes[2], bytes[3]];
     Ok(body.chunks(4).map(four).collect())
+}
+
+/// Whether these bytes are as long as the instructions of a job, 1 to 32.
+pub(crate) fn whole_program(bytes: &[u8]) -> bool {
+    let instructions = bytes.len() / 4;
+    bytes.len() == 4 * instructions && (1..=Engine::INSTRUCTIONS).contains(&instructions)
 }
 
 /// Whether the instruction at this place of a job of n may stand there.

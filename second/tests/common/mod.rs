@@ -1,7 +1,7 @@
 //! What the tests share: the records of document 01's table and small makers.
 #![allow(dead_code)]
 
-use second::script;
+use second::script::{self, Call};
 
 /// Setup S: two locks, words 5 and 9 under lock 0, word 7 under lock 1.
 pub const S: &str = "1D00020002030000010500000009000000070000000000000000000000";
@@ -9,6 +9,14 @@ pub const S: &str = "1D00020002030000010500000009000000070000000000000000000000"
 pub const A: &str = "180001000200000001010100050001000300000000010000";
 /// Job B: are words 0 and 1 equal?
 pub const B: &str = "180001000200000002010100070001010000000000010000";
+
+/// The bytes of a record that is written in hexadecimal.
+pub fn bytes(record: &str) -> Vec<u8> {
+    match script::parse(format!("setup {record}").as_bytes()) {
+        Some(Call::Setup(bytes)) => bytes,
+        _ => panic!("{record}"),
+    }
+}
 
 /// A job record of these instructions.
 pub fn job(program: &[[u8; 4]]) -> Vec<u8> {
