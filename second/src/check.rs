@@ -4,7 +4,7 @@
 
 use crate::alone;
 use crate::engine::{Engine, Instruction, LockWord, Standing, Wrong};
-use crate::generate::{Generator, Kind};
+use crate::generate::{Generator, Kind, SHORTEST_JOB};
 use crate::script::{perform, Call, Outcome, Told};
 
 /// A try, from its begin on; its number is its place among all begins.
@@ -303,7 +303,7 @@ impl Checker {
                 7
             }
         };
-        let record = vec![8, 0, 1, 0, 0, 1, 0, 0];
+        let record = SHORTEST_JOB.to_vec();
         let lock = lock as u32;
         self.call(&Call::Begin {
             worker,

@@ -6,6 +6,8 @@ use crate::engine::{Engine, LockWord, Standing};
 use crate::script::{self, Call, LONGEST_BYTES, LONGEST_SCRIPT};
 use std::collections::VecDeque;
 
+pub mod files;
+
 /// A small generator of numbers (splitmix), the same from the same seed.
 #[derive(Clone, Debug)]
 pub struct Random(u64);
@@ -101,6 +103,9 @@ impl Style {
 
 /// Small values, so that equal ones meet.
 const VALUES: [u8; 5] = [0, 1, 5, 6, 7];
+
+/// A job that begin takes under any lock: one halt, with yes.
+pub(crate) const SHORTEST_JOB: [u8; 8] = [8, 0, 1, 0, 0, 1, 0, 0];
 
 /// Numbers just out of range, and far out of it.
 const FAR: [u32; 20] = [
@@ -339,7 +344,7 @@ impl Generator {
             let call = match self.random.below(8) {
                 0 => {
                     let lock = self.random.below(2);
-                    let record = vec![8, 0, 1, 0, 0, 1, 0, 0];
+                    let record = SHORTEST_JOB.to_vec();
                     Call::Begin {
                         worker,
                         lock,
