@@ -162,7 +162,7 @@ begin-record :
 unfolding callWith callRecord
 begin-record call w l rec e = simp (e, part-end 4 rec)
 
-other-record :
+pub other-record :
     (call w l : ℕ) (rec : List ℕ) → (call ≡ 0 → ⊥) → call ≤ lastCall →
     recordWith call w 0 [] ≡ callRecord (callWith call w l rec)
 unfolding callWith callRecord

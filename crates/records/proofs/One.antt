@@ -22,7 +22,7 @@ use Rattle.records.specs.Inner.{Sized}
 use Rattle.records.proofs.Fours.{instrs-length, u32s-length, code-of-instrs, bytes-of-u32s}
 use Rattle.records.proofs.Laws.{length-known}
 
-drop-bytes : (n : ℕ) (s : List ℕ) → AllBytes s → AllBytes (drop n s)
+pub drop-bytes : (n : ℕ) (s : List ℕ) → AllBytes s → AllBytes (drop n s)
 drop-bytes n s h k = omega (arith, getD-drop n s k 0, h (n + k))
 
 four-first : (s : List ℕ) → 4 ≤ length s → s ≡ getD s 0 0 ∷ getD s 1 0 ∷ getD s 2 0 ∷ getD s 3 0 ∷ drop 4 s
@@ -33,7 +33,7 @@ four-first (a ∷ b ∷ c ∷ []) h = absurd (omega arith)
 four-first (a ∷ b ∷ c ∷ d ∷ rest) h = refl
 
 -- a record whose length and kind are right is their header with what follows
-header-is :
+pub header-is :
     (rec : List ℕ) (n kind : ℕ) (body : List ℕ) →
     AllBytes rec →
     lengthTold rec ≡ Accepted →

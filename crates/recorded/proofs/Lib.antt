@@ -1,0 +1,4 @@
+pub mod Encoding
+pub mod Same
+pub mod Replay
+pub mod Recorded

@@ -1,0 +1,1 @@
+// No code: what is promised of recorded calls, and its proof.
