@@ -21,7 +21,7 @@ use Rattle.records.specs.Bytes.{lengthField, kindField, header}
 use Rattle.records.specs.Job.{formOrder}
 use Rattle.records.proofs.Form.{form-four}
 use Rattle.records.proofs.Laws.{part-end}
-use Rattle.calls.specs.Record.{callKind, lastCall, callField, lockField, lastField, cutShort, noCallLength, unusedLock, badHead, noCall, recordTold, byteOf, recordWith, callWith, callRecord, recordLength, recordOrder, writeTold}
+use Rattle.calls.specs.Record.{callKind, lastCall, callField, lockField, lastField, cutShort, noCallLength, unusedLock, badHead, recordOrder, recordTold, byteOf, recordWith, callWith, callRecord, recordLength, writeOrder, writeTold}
 
 pub lt-by : {A : Type 0} (r a b : ℕ) (x y z : A) → r ≡ a → r < b → x ≡ y → x ≡ pick (ltb a b) y z
 lt-by r a b x y z q h e = pick-lt r b x y z h e ∙ ap (λ (n : ℕ). pick (ltb n b) y z) q
@@ -73,8 +73,7 @@ pub record Holds (s : List ℕ) : Type 0 where
 pub holds : (s : List ℕ) → recordTold s ≡ Accepted → Holds s
 unfolding recordTold badHead
 holds s h =
-    let row =
-    first-all (refuseIf (cutShort s) Length ∷ refuseIf (kindField s isnt callKind) Kind ∷ refuseIf (noCall s) CallRecord ∷ []) h in
+    let row = first-all (recordOrder s) h in
     let w = whole-known s (cutShort s) refl (row-passes (cutShort s) Length (row 0)) in
     let a = neither (ltb (lengthField s) 8) (badHead (callField s) (lockField s) (lastField s) (lengthField s)) (row-passes _ CallRecord (row 2)) in
     let b = neither (ltb lastCall (callField s)) (ltb 0 (lastField s) or unusedLock (callField s) (lockField s) or noCallLength (callField s) (lengthField s)) (a .1) in
@@ -131,7 +130,7 @@ pub record Fits (call : ℕ) (rec : List ℕ) (room : ℕ) : Type 0 where
 pub fits : (call : ℕ) (rec : List ℕ) (room : ℕ) → writeTold call rec room ≡ Accepted → Fits call rec room
 unfolding writeTold
 fits call rec room h =
-    let row = first-all (recordOrder call rec room) h in
+    let row = first-all (writeOrder call rec room) h in
     record {
       most = ltb-false _ _ (row-passes _ CallRecord (row 0));
       form = λ e. pick-eq call 0 _ _ _ e refl ∙ row 1;

@@ -47,11 +47,12 @@ badHead call lock last n = ltb lastCall call or ltb 0 last or unusedLock call lo
 abbrev pub noCall : List ℕ → Bool
 noCall s = ltb (lengthField s) 8 or badHead (callField s) (lockField s) (lastField s) (lengthField s)
 
--- "Refusals: 5 ..; then 6; then 17": of the record at the front of s
+-- "5 .. then 6; then 17": of the record at the front of s
+abbrev pub recordOrder : List ℕ → List Told
+recordOrder s = refuseIf (cutShort s) Length ∷ refuseIf (kindField s isnt callKind) Kind ∷ refuseIf (noCall s) CallRecord ∷ []
+
 unfoldable pub recordTold : List ℕ → Told
-recordTold s =
-    firstOf
-    (refuseIf (cutShort s) Length ∷ refuseIf (kindField s isnt callKind) Kind ∷ refuseIf (noCall s) CallRecord ∷ [])
+recordTold s = firstOf (recordOrder s)
 
 -- the call of a number, with its worker, its lock and its job record
 unfoldable pub callWith : ℕ → ℕ → ℕ → List ℕ → Call
@@ -90,15 +91,15 @@ recordLength call rec = pick (eqb call 0) (4 + length rec) 8
 
 -- The writer's order: 17 for a call above 3; for a begin whose bytes are no job record their 5 or 6; 13, "lent buffer shorter than
 -- the record"
-abbrev pub recordOrder : ℕ → List ℕ → ℕ → List Told
-recordOrder call rec room =
+abbrev pub writeOrder : ℕ → List ℕ → ℕ → List Told
+writeOrder call rec room =
     refuseIf (ltb lastCall call) CallRecord ∷
     pick (eqb call 0) (firstOf (formOrder rec)) Accepted ∷
     refuseIf (ltb room (recordLength call rec)) Buffer ∷
     []
 
 unfoldable pub writeTold : ℕ → List ℕ → ℕ → Told
-writeTold call rec room = firstOf (recordOrder call rec room)
+writeTold call rec room = firstOf (writeOrder call rec room)
 
 -- what it tells, and the buffer after it
 unfoldable pub recordedOf : ℕ → ℕ → ℕ → List ℕ → ℕ → WriteTold
