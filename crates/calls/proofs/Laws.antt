@@ -21,7 +21,7 @@ use Rattle.records.specs.Bytes.{lengthField, kindField, header}
 use Rattle.records.specs.Job.{formOrder}
 use Rattle.records.proofs.Form.{form-four}
 use Rattle.records.proofs.Laws.{part-end}
-use Rattle.calls.specs.Record.{callKind, lastCall, callField, lockField, lastField, cutShort, noCallLength, unusedLock, badHead, recordOrder, recordTold, byteOf, recordWith, callWith, callRecord, recordLength, writeOrder, writeTold}
+use Rattle.calls.specs.Record.{callKind, lastCall, callField, lockField, lastField, cutShort, noCallLength, lockUnused, badHead, recordOrder, recordTold, cappedOf, recordWith, callWith, callRecord, recordLength, writeOrder, writeTold}
 
 pub lt-by : {A : Type 0} (r a b : ℕ) (x y z : A) → r ≡ a → r < b → x ≡ y → x ≡ pick (ltb a b) y z
 lt-by r a b x y z q h e = pick-lt r b x y z h e ∙ ap (λ (n : ℕ). pick (ltb n b) y z) q
@@ -67,7 +67,7 @@ pub record Holds (s : List ℕ) : Type 0 where
   pub kind : kindField s ≡ callKind
   pub call : callField s ≤ lastCall
   pub last : lastField s ≡ 0
-  pub lock : unusedLock (callField s) (lockField s) ≡ false
+  pub lock : lockUnused (callField s) (lockField s) ≡ false
   pub size : noCallLength (callField s) (lengthField s) ≡ false
 
 pub holds : (s : List ℕ) → recordTold s ≡ Accepted → Holds s
@@ -76,9 +76,9 @@ holds s h =
     let row = first-all (recordOrder s) h in
     let w = whole-known s (cutShort s) refl (row-passes (cutShort s) Length (row 0)) in
     let a = neither (ltb (lengthField s) 8) (badHead (callField s) (lockField s) (lastField s) (lengthField s)) (row-passes _ CallRecord (row 2)) in
-    let b = neither (ltb lastCall (callField s)) (ltb 0 (lastField s) or unusedLock (callField s) (lockField s) or noCallLength (callField s) (lengthField s)) (a .1) in
-    let c = neither (ltb 0 (lastField s)) (unusedLock (callField s) (lockField s) or noCallLength (callField s) (lengthField s)) (b .1) in
-    let d = neither (unusedLock (callField s) (lockField s)) (noCallLength (callField s) (lengthField s)) (c .1) in
+    let b = neither (ltb lastCall (callField s)) (ltb 0 (lastField s) or lockUnused (callField s) (lockField s) or noCallLength (callField s) (lengthField s)) (a .1) in
+    let c = neither (ltb 0 (lastField s)) (lockUnused (callField s) (lockField s) or noCallLength (callField s) (lengthField s)) (b .1) in
+    let d = neither (lockUnused (callField s) (lockField s)) (noCallLength (callField s) (lengthField s)) (c .1) in
     let l : lastField s ≤ 0 = ltb-false _ _ (c .0) in
     record {
       least = ltb-false _ _ (a .0);
@@ -108,8 +108,8 @@ holds-whole s r h e = omega (arith, holds s h .whole)
 pub record-laid :
     (call w l a b size : ℕ) (code buf headed filled next : List ℕ) →
     size ≡ 8 + length code →
-    a ≡ byteOf w →
-    b ≡ byteOf l →
+    a ≡ cappedOf w →
+    b ≡ cappedOf l →
     headed ≡ lay 0 (header size callKind []) buf →
     filled ≡ lay 4 (call ∷ a ∷ b ∷ 0 ∷ []) headed →
     next ≡ lay 8 code filled →

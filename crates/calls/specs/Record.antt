@@ -12,6 +12,7 @@ use Rattle.past.specs.Past.{Call, Begin, Step, Collect, Drop, ReadWord, ReadLoc
 abbrev pub callKind : ℕ
 callKind = 3
 
+-- "0 begin, 1 step, 2 collect, 3 drop"
 abbrev pub lastCall : ℕ
 lastCall = 3
 
@@ -32,22 +33,23 @@ lastField s = getD s 7 0
 abbrev pub cutShort : List ℕ → Bool
 cutShort s = ltb (length s) 2 or ltb (lengthField s) 4 or ltb (length s) (lengthField s)
 
--- "a length not 8 (begin: 8 + 4n)", which is 4 more than its job record's; an "unused lock not 0"
+-- "a length not 8 (begin: 8 + 4n)", which is 4 more than its job record's
 abbrev pub noCallLength : ℕ → ℕ → Bool
 noCallLength call n = pick (eqb call 0) (noJobLength (n - 4)) (n isnt 8)
 
-abbrev pub unusedLock : ℕ → ℕ → Bool
-unusedLock call lock = pick (eqb call 0) false (ltb 0 lock)
+-- "unused lock not 0": only begin names a lock
+abbrev pub lockUnused : ℕ → ℕ → Bool
+lockUnused call lock = pick (eqb call 0) false (ltb 0 lock)
 
 -- "17 for a call above 3, a last head byte or unused lock not 0, or a length not 8 (begin: 8 + 4n)": of these bytes and a length n
 unfoldable pub badHead : ℕ → ℕ → ℕ → ℕ → Bool
-badHead call lock last n = ltb lastCall call or ltb 0 last or unusedLock call lock or noCallLength call n
+badHead call lock last n = ltb lastCall call or ltb 0 last or lockUnused call lock or noCallLength call n
 
--- a record of fewer than 8 has no such bytes
+-- a record of fewer than 8 does not have all of these bytes
 abbrev pub noCall : List ℕ → Bool
 noCall s = ltb (lengthField s) 8 or badHead (callField s) (lockField s) (lastField s) (lengthField s)
 
--- "5 .. then 6; then 17": of the record at the front of s
+-- 5, "then 6; then 17": of the record at the front of s
 abbrev pub recordOrder : List ℕ → List Told
 recordOrder s = refuseIf (cutShort s) Length ∷ refuseIf (kindField s isnt callKind) Kind ∷ refuseIf (noCall s) CallRecord ∷ []
 
@@ -68,11 +70,11 @@ abbrev pub callIn : List ℕ → Call
 callIn s = callWith (callField s) (workerField s) (lockField s) (jobIn s)
 
 -- a worker or lock above 255 is written as 255: there is none of that number either
-abbrev pub byteOf : ℕ → ℕ
-byteOf n = min n 255
+abbrev pub cappedOf : ℕ → ℕ
+cappedOf n = min n 255
 
 unfoldable pub recordWith : ℕ → ℕ → ℕ → List ℕ → List ℕ
-recordWith call w l code = header (8 + length code) callKind (call ∷ byteOf w ∷ byteOf l ∷ 0 ∷ code)
+recordWith call w l code = header (8 + length code) callKind (call ∷ cappedOf w ∷ cappedOf l ∷ 0 ∷ code)
 
 -- the record of a call; those that read or write leave none
 unfoldable pub callRecord : Call → List ℕ

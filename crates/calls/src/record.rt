@@ -4,7 +4,7 @@ ghost use Prim.Native.Nat.{_≤_};
 ghost use lib.ListN.{length};
 ghost use Rattle.parts.specs.declared.Told.the-variants.{Accepted};
 ghost use Rattle.records.specs.Bytes.{lengthField};
-ghost use Rattle.calls.specs.Record.{noCallLength, unusedLock, cutShort, badHead, noCall, recordTold};
+ghost use Rattle.calls.specs.Record.{noCallLength, lockUnused, cutShort, badHead, noCall, recordTold};
 use parts::Refusal;
 use parts::Told;
 
@@ -24,7 +24,7 @@ fn no_call_length(call: u8, n: usize) -> bool
 
 // Only begin names a lock.
 fn unused_lock(call: u8, lock: u8) -> bool
-    ensures { λ r. ⌜ r ≡ unusedLock call lock ⌝ }
+    ensures { λ r. ⌜ r ≡ lockUnused call lock ⌝ }
 {
     if call == 0 {
         return false;
@@ -32,7 +32,7 @@ fn unused_lock(call: u8, lock: u8) -> bool
     0 < lock
 }
 
-// "A record cut short or a length field below 4."
+// "a record cut short or a length field below 4"
 fn cut_short(s: &[u8]) -> bool
     ensures { λ r. ⌜ r ≡ cutShort (now (s .entry)) ⌝ }
 {
@@ -46,7 +46,7 @@ fn cut_short(s: &[u8]) -> bool
     s.len() < n
 }
 
-// "A call above 3, a last head byte or unused lock not 0, or a length not 8 (begin: 8 + 4n)."
+// "a call above 3, a last head byte or unused lock not 0, or a length not 8 (begin: 8 + 4n)"
 fn bad_head(call: u8, lock: u8, last: u8, n: usize) -> bool
     requires { ⌜ 8 ≤ n ⌝ }
     ensures { λ r. ⌜ r ≡ badHead call lock last n ⌝ }
@@ -63,7 +63,7 @@ fn bad_head(call: u8, lock: u8, last: u8, n: usize) -> bool
     no_call_length(call, n)
 }
 
-// A record of fewer than 8 bytes has no such bytes.
+// A record of fewer than 8 bytes does not have them all.
 fn no_call(s: &[u8]) -> bool
     requires { ⌜ (4 ≤ length (now s)) × (lengthField (now s) ≤ length (now s)) ⌝ }
     ensures { λ r. ⌜ r ≡ noCall (now (s .entry)) ⌝ }
@@ -75,7 +75,7 @@ fn no_call(s: &[u8]) -> bool
     bad_head(s[4], s[6], s[7], n)
 }
 
-// "Refusals: 5 ..; then 6; then 17."
+// Its refusals: 5, then 6, then 17.
 pub fn record_told(s: &[u8]) -> Told
     ensures { λ r. ⌜ r ≡ recordTold (now (s .entry)) ⌝ }
 {

@@ -9,14 +9,14 @@ ghost use Rattle.parts.specs.Told.{firstOf, refuseIf};
 ghost use Rattle.parts.specs.declared.Refusal.the-variants.{Buffer};
 ghost use Rattle.parts.specs.declared.Told.the-variants.{Accepted};
 ghost use Rattle.records.specs.Job.{formOrder};
-ghost use Rattle.calls.specs.Record.{byteOf, recordWith, callWith, callRecord, recordLength, writeTold, recordedOf, recordedIn};
+ghost use Rattle.calls.specs.Record.{cappedOf, recordWith, callWith, callRecord, recordLength, writeTold, recordedOf, recordedIn};
 use engine::WriteTold;
 use parts::Refusal;
 use parts::Told;
 
 // A worker or lock above 255 is written as 255.
 fn byte_of(n: u32) -> u8
-    ensures { λ r. ⌜ r ≡ byteOf n ⌝ }
+    ensures { λ r. ⌜ r ≡ cappedOf n ⌝ }
 {
     if 255 < n {
         return 255;

@@ -23,6 +23,7 @@ use Rattle.parts.proofs.Order.{neither}
 use Rattle.records.specs.Bytes.{lengthField}
 use Rattle.records.proofs.Laws.{part-end}
 use Rattle.engine.specs.Calls.{setupOf}
+use Rattle.engine.specs.State.{blankOf}
 use Rattle.engine.specs.declared.Engine.{Engine}
 use Rattle.engine.specs.declared.Outcome.{Outcome}
 use Rattle.past.specs.Past.{after}
@@ -34,8 +35,8 @@ use Rattle.calls.proofs.Items.{at-record, at-refused, no-end}
 use Rattle.calls.proofs.Laws.{holds}
 use Rattle.text.specs.Text.{newline, Puts, decimalOf}
 use Rattle.text.proofs.Written.{puts-both, puts-same}
-use Rattle.files.specs.File.{refusedLine, lineOf, Walked, _before_, walkFrom, lineText, linesText, numberLine, setupText, mostFile, noSetup, printedOf}
-use Rattle.files.specs.Made.{madeOf, mostText}
+use Rattle.files.specs.File.{refusedLine, callLine, Walked, _before_, walkFrom, lineText, linesText, numberLine, setupText, setupState, mostFile, noSetup, printedOf, replayedState, mostText}
+use Rattle.files.specs.Made.{madeOf}
 use Rattle.files.specs.declared.make.Line.{Line}
 use Rattle.files.specs.declared.make.Made.{Made}
 
@@ -59,11 +60,11 @@ walk-refused e (b ∷ s) r k h = simp h
 
 pub walk-record :
     (e : Engine) (s : List ℕ) → recordTold s ≡ Accepted →
-    walkFrom zero e s ≡ (lineOf e (callIn s) before walkFrom zero (after e (callIn s)) (drop (lengthField s) s))
+    walkFrom zero e s ≡ (callLine e (callIn s) before walkFrom zero (after e (callIn s)) (drop (lengthField s) s))
 unfolding walkFrom
 walk-record e [] h = absurd (omega (arith, holds [] h .least, holds [] h .whole))
 walk-record e (b ∷ s) h =
-    simp h (ap (λ (w : Walked). lineOf e (callIn (b ∷ s)) before w) (past (lengthField (b ∷ s)) (holds (b ∷ s) h .least)))
+    simp h (ap (λ (w : Walked). callLine e (callIn (b ∷ s)) before w) (past (lengthField (b ∷ s)) (holds (b ∷ s) h .least)))
   where
     past :
         (n : ℕ) → 8 ≤ n →
@@ -75,9 +76,10 @@ walk-record e (b ∷ s) h =
 
 -- What a walk has yet to do: the lines that it is to put from place `at` of the buffer on are what is left of all its text, and there
 -- is room.
-pub record Left (file all out₀ : List ℕ) (e : Engine) (place index at : ℕ) (out : List ℕ) : Type 0 where
+pub record Left (file all out₀ : List ℕ) (last e : Engine) (place index at : ℕ) (out : List ℕ) : Type 0 where
   pub laid : lay 0 all out₀ ≡ lay at (linesText index (walkFrom zero e (drop place file) .lines)) out
   pub count : length all ≡ at + length (linesText index (walkFrom zero e (drop place file) .lines))
+  pub state : last ≡ walkFrom zero e (drop place file) .engine
   pub room : at ≤ 84 * index
   pub passed : 8 * index ≤ place
   pub within : (place ≤ length file) × (length file ≤ mostFile)
@@ -86,11 +88,11 @@ pub record Left (file all out₀ : List ℕ) (e : Engine) (place index at : ℕ)
 
 pub left-start :
     (file out : List ℕ) (e : Engine) (from : ℕ) → from ≤ length file → length file ≤ mostFile → mostText ≤ length out →
-    Left file (linesText 0 (walkFrom zero e (drop from file) .lines)) out e from 0 0 out
+    Left file (linesText 0 (walkFrom zero e (drop from file) .lines)) out (walkFrom zero e (drop from file) .engine) e from 0 0 out
 left-start file out e from h k s =
-    record { laid = refl; count = omega arith; room = omega arith; passed = omega arith; within = (h, k); size = s; same = refl }
+    record { laid = refl; count = omega arith; state = refl; room = omega arith; passed = omega arith; within = (h, k); size = s; same = refl }
 
-module _ (file all out₀ out : List ℕ) (e : Engine) (place index at : ℕ) (l : Left file all out₀ e place index at out) where
+module _ (file all out₀ out : List ℕ) (last e : Engine) (place index at : ℕ) (l : Left file all out₀ last e place index at out) where
   -- all is put
   pub left-end : length file ≤ place → Puts 0 mostText all out₀ out at
   unfolding linesText lay
@@ -103,6 +105,10 @@ module _ (file all out₀ out : List ℕ) (e : Engine) (place index at : ℕ) (l
         within = omega (arith, l .room, l .passed, l .within .0, l .within .1);
         laid = sym (l .laid ∙ ap (λ (v : Walked). lay at (linesText index (v .lines)) out) w);
       }
+
+  pub left-end-state : length file ≤ place → e ≡ last
+  left-end-state h =
+      sym (l .state ∙ ap (λ (v : Walked). v .engine) (walk-end e (drop place file) (drop-of-length-le file h)))
 
   module _ (k : place < length file) where
     pub line-room : at + 84 ≤ length out
@@ -141,6 +147,11 @@ module _ (file all out₀ out : List ℕ) (e : Engine) (place index at : ℕ) (l
             within = omega (arith, u .within, l .room, left-index);
             laid = u .laid ∙ sym (l .laid ∙ ap (λ (t : List ℕ). lay at t out) x);
           }
+
+      pub left-refused-state : (i : Item) (r : Refusal) → i ≡ h .item → i ≡ Item.Refused r → e ≡ last
+      left-refused-state i r p f =
+          let t = at-refused file place (h .item) k item-is r (sym p ∙ f) in
+          sym (l .state ∙ ap (λ (v : Walked). v .engine) (walk-refused e (drop place file) r some-left t))
 
       -- one record
       module _ (i : Item) (here to : ℕ) (p : i ≡ h .item) (f : i ≡ Item.Record here to) where
@@ -181,7 +192,7 @@ module _ (file all out₀ out : List ℕ) (e : Engine) (place index at : ℕ) (l
 
           pub left-record :
               (next : ℕ) (out′ : List ℕ) → Puts at 84 (lineText index (m .line)) out out′ next →
-              Left file all out₀ (m .engine) (h .place) (index + 1) next out′
+              Left file all out₀ last (m .engine) (h .place) (index + 1) next out′
           unfolding linesText
           left-record next out′ u =
               let after = linesText (index + 1) (walkFrom zero (m .engine) (drop (h .place) file) .lines) in
@@ -197,6 +208,7 @@ module _ (file all out₀ out : List ℕ) (e : Engine) (place index at : ℕ) (l
                     ap (λ (o : List ℕ). lay (at + length (lineText index (m .line))) after o) (sym (u .laid)) ∙
                     ap (λ (j : ℕ). lay j after out′) (sym (u .place));
                 count = omega (arith, n, u .place, length-append (lineText index (m .line)) after);
+                state = l .state ∙ ap (λ (v : Walked). v .engine) walk-is;
                 room = omega (arith, u .within, l .room);
                 passed = omega (arith, l .passed, next-is, c .least);
                 within = (omega (arith, next-is, c .whole, length-drop place file), l .within .1);
@@ -235,11 +247,26 @@ module _ (file a b : List ℕ) (n next : ℕ) (d : Outcome) (q : d ≡ setupOf (
       (ap (λ (x : Outcome). linesText 0 (walkFrom zero (x .engine) (drop n file) .lines)) q ∙ sym (simp (told-is Accepted (sym e ∙ h))))
       (omega arith)
 
+  pub state-refused : (t : Told) (r : Refusal) (x : Engine) → t ≡ d .told → t ≡ Refused r → x ≡ blankOf → x ≡ setupState file n
+  unfolding setupState
+  state-refused t r x e h p = p ∙ sym (simp (told-is (Refused r) (sym e ∙ h)))
+
+  pub state-walk :
+      (t : Told) (x : Engine) → t ≡ d .told → t ≡ Accepted → x ≡ walkFrom zero (d .engine) (drop n file) .engine →
+      x ≡ setupState file n
+  unfolding setupState
+  state-walk t x e h p =
+      p ∙ ap (λ (y : Outcome). walkFrom zero (y .engine) (drop n file) .engine) q ∙ sym (simp (told-is Accepted (sym e ∙ h)))
+
 -- a file of which a callee found whether it has a setup
 module _ (file : List ℕ) (r : Bool) (q : r ≡ noSetup file) where
   pub printed-five : (a b : List ℕ) (next : ℕ) → r ≡ true → Puts 0 21 (numberLine Length) a b next → Puts 0 mostText (printedOf file) a b next
   unfolding printedOf
   printed-five a b next h p = puts-same 0 next 21 mostText _ _ a b p (pick-true-by r _ _ _ _ q h refl) (omega arith)
+
+  pub state-five : (x : Engine) → r ≡ true → x ≡ blankOf → x ≡ replayedState file
+  unfolding replayedState
+  state-five x h p = pick-true-by r _ _ _ _ q h p
 
   module _ (h : r ≡ false) where
     sized : (length file ≤ mostFile) × (2 ≤ length file) × (lengthField file ≤ length file)
@@ -263,3 +290,7 @@ module _ (file : List ℕ) (r : Bool) (q : r ≡ noSetup file) where
       unfolding printedOf
       printed-rest a b next p =
           puts-same 0 next mostText mostText _ _ a b p (pick-false-by r _ _ _ _ q h (ap (setupText file) e)) (omega arith)
+
+      pub state-rest : (x : Engine) → x ≡ setupState file n → x ≡ replayedState file
+      unfolding replayedState
+      state-rest x p = pick-false-by r _ _ _ _ q h (p ∙ ap (setupState file) e)

@@ -7,6 +7,7 @@ use Rattle.parts.specs.Pick.{pick, _or_}
 use Rattle.parts.specs.Told.{onTold, answerNumber, refusalNumber}
 use Rattle.records.specs.Bytes.{lengthField}
 use Rattle.engine.specs.Calls.{setupOf, beginOf, stepOf, collectOf, dropOf}
+use Rattle.engine.specs.State.{blankOf}
 use Rattle.past.specs.Past.{Call, Begin, Step, Collect, Drop, ReadWord, ReadLock, Show, Park, after}
 use Rattle.calls.specs.Record.{recordTold, callIn}
 use Rattle.text.specs.Text.{newline, decimalOf, numberText, pairText}
@@ -26,16 +27,16 @@ abbrev pub collectLine : CollectTold → Line
 collectLine (CollectTold.Answered answer steps) = record { number = 0; answer = answerNumber answer; steps = steps }
 collectLine (CollectTold.Refused r) = refusedLine r
 
--- what is told of a call made on state e; those that read or write are in no file
-unfoldable pub lineOf : Engine → Call → Line
-lineOf e (Begin w l rec) = toldLine (beginOf e w l rec .told)
-lineOf e (Step w) = toldLine (stepOf e w .told)
-lineOf e (Collect w) = collectLine (collectOf e w .told)
-lineOf e (Drop w) = toldLine (dropOf e w .told)
-lineOf e (ReadWord i) = acceptedLine
-lineOf e (ReadLock l) = acceptedLine
-lineOf e (Show s room) = acceptedLine
-lineOf e (Park room) = acceptedLine
+-- what is told of a call made on state e; those that read or write are in no file, and any line will do
+unfoldable pub callLine : Engine → Call → Line
+callLine e (Begin w l rec) = toldLine (beginOf e w l rec .told)
+callLine e (Step w) = toldLine (stepOf e w .told)
+callLine e (Collect w) = collectLine (collectOf e w .told)
+callLine e (Drop w) = toldLine (dropOf e w .told)
+callLine e (ReadWord i) = acceptedLine
+callLine e (ReadLock l) = acceptedLine
+callLine e (Show s room) = acceptedLine
+callLine e (Park room) = acceptedLine
 
 -- what a walk comes to: the lines, and the state after the last call
 pub record Walked : Type 0 where
@@ -45,33 +46,39 @@ pub record Walked : Type 0 where
 abbrev pub _before_ : Line → Walked → Walked
 line before walked = record { lines = line ∷ walked .lines; engine = walked .engine }
 
--- The call records of s, on state e, once n bytes are passed over. "Refusals: .. Each ends the walk after its line, ending 0 0."
+-- The call records of s, on state e. The recursion is on the bytes: n of them are passed over first, which is what is left of a record
+-- that was read. "Each ends the walk after its line, ending 0 0": 5, 6 and 17 of a record
 unfoldable pub walkFrom : ℕ → Engine → List ℕ → Walked
 walkFrom n e [] = record { lines = []; engine = e }
 walkFrom (suc n) e (b ∷ s) = walkFrom n e s
 walkFrom zero e (b ∷ s) =
     onTold (recordTold (b ∷ s))
-    (lineOf e (callIn (b ∷ s)) before walkFrom (lengthField (b ∷ s) - 1) (after e (callIn (b ∷ s))) s)
+    (callLine e (callIn (b ∷ s)) before walkFrom (lengthField (b ∷ s) - 1) (after e (callIn (b ∷ s))) s)
     (λ r. record { lines = refusedLine r ∷ []; engine = e })
 
--- "in decimal with single spaces, a line each": the first has this index
+-- "in decimal with single spaces, a line each"
 abbrev pub lineText : ℕ → Line → List ℕ
 lineText index line = (decimalOf index ++ numberText (line .number)) ++ (pairText (line .answer) (line .steps) ++ (newline ∷ []))
 
+-- of which the first has this index
 unfoldable pub linesText : ℕ → List Line → List ℕ
 linesText index [] = []
 linesText index (line ∷ lines) = lineText index line ++ linesText (index + 1) lines
 
--- "a refused setup its number", alone on a line
+-- a refusal's number, alone on a line
 unfoldable pub numberLine : Refusal → List ℕ
 numberLine r = decimalOf (refusalNumber r) ++ (newline ∷ [])
 
--- a file whose first n bytes are its setup record: the rest is walked where that is accepted
+-- a file whose first n bytes are its setup record: the records after them, on the state that setup gives
 abbrev pub walkedFrom : List ℕ → ℕ → Walked
 walkedFrom file n = walkFrom zero (setupOf (take n file) .engine) (drop n file)
 
+-- what is printed, and the state that is left: they are walked only where setup accepts
 unfoldable pub setupText : List ℕ → ℕ → List ℕ
 setupText file n = onTold (setupOf (take n file) .told) (linesText 0 (walkedFrom file n .lines)) numberLine
+
+unfoldable pub setupState : List ℕ → ℕ → Engine
+setupState file n = onTold (setupOf (take n file) .told) (walkedFrom file n .engine) (λ r. blankOf)
 
 -- "Standard input above 65,536 bytes, or else a setup cut short": fewer than the 2 bytes of its length field, or fewer than it says
 abbrev pub mostFile : ℕ
@@ -83,3 +90,12 @@ noSetup file = ltb mostFile (length file) or ltb (length file) 2 or ltb (length 
 -- ".. prints 5 and stops; a refused setup its number."
 unfoldable pub printedOf : List ℕ → List ℕ
 printedOf file = pick (noSetup file) (numberLine Length) (setupText file (lengthField file))
+
+-- the state after the last call; the blank one where there is no setup
+unfoldable pub replayedState : List ℕ → Engine
+replayedState file = pick (noSetup file) blankOf (setupState file (lengthField file))
+
+-- the most bytes of a text. A line takes at most 84: four numbers of at most 20 digits, three spaces and its end; and a file has fewer
+-- than 8,192 records that are accepted, of at least 8 bytes each, and at most one that is refused
+abbrev pub mostText : ℕ
+mostText = 84 * 8192

@@ -6,14 +6,14 @@ ghost use Rattle.parts.specs.declared.Told.the-variants.{Accepted};
 ghost use Rattle.past.specs.Past.{Begin, Step, Collect, Drop};
 ghost use Rattle.calls.specs.Record.{callField, workerField, lockField, recordTold, jobIn, callIn};
 ghost use Rattle.files.specs.File.{refusedLine, toldLine, collectLine};
-ghost use Rattle.files.specs.Made.{quietOf, madeOf};
+ghost use Rattle.files.specs.Made.{quietMade, madeOf};
 use engine::CollectTold;
 use engine::Engine;
 use engine::Outcome;
 use parts::Refusal;
 use parts::Told;
 
-// "The refusal number (0 if accepted) and, for collect, answer and steps (0 and 0 otherwise)."
+// "the refusal number (0 if accepted) and, for collect, answer and steps (0 and 0 otherwise)"
 pub struct Line {
     pub number: u32,
     pub answer: u32,
@@ -64,7 +64,7 @@ fn collect_line(told: CollectTold) -> Line
 
 // A call that tells no more than whether it was accepted.
 fn quiet(out: Outcome) -> Made
-    ensures { λ r. ⌜ r ≡ quietOf out ⌝ }
+    ensures { λ r. ⌜ r ≡ quietMade out ⌝ }
 {
     let engine = out.engine;
     let told = out.told;

@@ -4,8 +4,8 @@ ghost use Prim.Native.Nat.{_+_, _≤_};
 ghost use mathlib.Core.List.{[], _∷_, _++_};
 ghost use lib.ListN.{length, drop};
 ghost use Rattle.text.specs.Text.{Puts, newline, decimalOf, numberText, pairText};
-ghost use Rattle.files.specs.File.{mostFile, walkFrom, lineText, linesText, numberLine, noSetup, setupText, printedOf};
-ghost use Rattle.files.specs.Made.{mostText};
+ghost use Rattle.files.specs.File.{mostFile, walkFrom, lineText, linesText, numberLine, noSetup, setupText, setupState, printedOf, replayedState, mostText};
+ghost use Rattle.engine.specs.State.{blankOf};
 use crate::make::Line;
 use crate::make::make;
 use crate::make::refused_line;
@@ -41,10 +41,17 @@ fn put_line(out: &mut [u8], at: usize, index: u32, line: Line) -> usize
     put_end(out, next, line.answer, line.steps)
 }
 
+// What a walk leaves: the state after its last call, and how many bytes of text were put.
+pub struct Replayed {
+    pub engine: Engine,
+    pub length: usize,
+}
+
 // The call records from byte `from` on, on a state.
-fn walk(file: &[u8], from: usize, start: Engine, out: &mut [u8]) -> usize
+fn walk(file: &[u8], from: usize, start: Engine, out: &mut [u8]) -> Replayed
     requires { ⌜ (from ≤ length (now file)) × (length (now file) ≤ mostFile) × (mostText ≤ length (now out)) ⌝ }
-    ensures { λ r. ⌜ Puts 0 mostText (linesText 0 (walkFrom 0 start (drop from (now (file .entry))) .lines)) (now (out .entry)) (now (out .exit)) r ⌝ }
+    ensures { λ r. ⌜ Puts 0 mostText (linesText 0 (walkFrom 0 start (drop from (now (file .entry))) .lines)) (now (out .entry)) (now (out .exit)) (r .length) ⌝ }
+    ensures { λ r. ⌜ r .engine ≡ walkFrom 0 start (drop from (now (file .entry))) .engine ⌝ }
 {
     let mut engine = start;
     let mut place = from;
@@ -54,8 +61,11 @@ fn walk(file: &[u8], from: usize, start: Engine, out: &mut [u8]) -> usize
         let handed = hand_out(file, place);
         let item = handed.item;
         match item {
-            Item::End => return at,
-            Item::Refused(r) => return put_line(out, at, index, refused_line(r)),
+            Item::End => return Replayed { engine, length: at },
+            Item::Refused(r) => {
+                let length = put_line(out, at, index, refused_line(r));
+                return Replayed { engine, length };
+            }
             Item::Record(here, _) => {
                 let made = make(engine, &file[here..]);
                 at = put_line(out, at, index, made.line);
@@ -66,7 +76,7 @@ fn walk(file: &[u8], from: usize, start: Engine, out: &mut [u8]) -> usize
             }
         }
     }
-    at
+    Replayed { engine, length: at }
 }
 
 // A number alone on a line.
@@ -79,7 +89,18 @@ fn put_alone(out: &mut [u8], r: Refusal) -> usize
     text::put(out, next, 10)
 }
 
-// "Standard input above 65,536 bytes, or else a setup cut short."
+// Nothing is walked: a number, and the blank state.
+fn stopped(r: Refusal, out: &mut [u8]) -> Replayed
+    requires { ⌜ 21 ≤ length (now out) ⌝ }
+    ensures { λ n. ⌜ Puts 0 21 (numberLine r) (now (out .entry)) (now (out .exit)) (n .length) ⌝ }
+    ensures { λ n. ⌜ n .engine ≡ blankOf ⌝ }
+{
+    let length = put_alone(out, r);
+    let engine = Engine::blank();
+    Replayed { engine, length }
+}
+
+// "Standard input above 65,536 bytes, or else a setup cut short"
 fn no_setup(file: &[u8]) -> bool
     ensures { λ r. ⌜ r ≡ noSetup (now (file .entry)) ⌝ }
 {
@@ -94,24 +115,26 @@ fn no_setup(file: &[u8]) -> bool
 }
 
 // The file's first n bytes are its setup record; the rest is walked where that is accepted.
-fn on_setup(file: &[u8], n: usize, out: &mut [u8]) -> usize
+fn on_setup(file: &[u8], n: usize, out: &mut [u8]) -> Replayed
     requires { ⌜ (n ≤ length (now file)) × (length (now file) ≤ mostFile) × (mostText ≤ length (now out)) ⌝ }
-    ensures { λ r. ⌜ Puts 0 mostText (setupText (now (file .entry)) n) (now (out .entry)) (now (out .exit)) r ⌝ }
+    ensures { λ r. ⌜ Puts 0 mostText (setupText (now (file .entry)) n) (now (out .entry)) (now (out .exit)) (r .length) ⌝ }
+    ensures { λ r. ⌜ r .engine ≡ setupState (now (file .entry)) n ⌝ }
 {
     let done = Engine::setup(&file[..n]);
     let told = done.told;
     match told {
-        Told::Refused(r) => put_alone(out, r),
+        Told::Refused(r) => stopped(r, out),
         Told::Accepted => walk(file, n, done.engine, out),
     }
 }
 
-// What the program `replay` prints of a file: how many bytes, at the front of the buffer.
-pub fn replay(file: &[u8], out: &mut [u8; 688128]) -> usize
-    ensures { λ r. ⌜ Puts 0 mostText (printedOf (now (file .entry))) (now (out .entry)) (now (out .exit)) r ⌝ }
+// What the program `replay` prints of a file, at the front of the buffer, and the state that the file's calls leave.
+pub fn replay(file: &[u8], out: &mut [u8; 688128]) -> Replayed
+    ensures { λ r. ⌜ Puts 0 mostText (printedOf (now (file .entry))) (now (out .entry)) (now (out .exit)) (r .length) ⌝ }
+    ensures { λ r. ⌜ r .engine ≡ replayedState (now (file .entry)) ⌝ }
 {
     if no_setup(file) {
-        return put_alone(out, Refusal::Length);
+        return stopped(Refusal::Length, out);
     }
     let n = records::length_of(file);
     on_setup(file, n, out)

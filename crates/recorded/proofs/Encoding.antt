@@ -14,14 +14,14 @@ use Rattle.parts.specs.Told.{onTold, firstOf, refuseIf}
 use Rattle.parts.specs.declared.Refusal.the-variants.{Length, Kind}
 use Rattle.parts.specs.declared.Told.{Told}
 use Rattle.parts.specs.declared.Told.the-variants.{Accepted, Refused}
-use Rattle.parts.proofs.Laws.{pick-ne}
+use Rattle.parts.proofs.Laws.{pick-eq, pick-ne}
 use Rattle.parts.proofs.Order.{first-all, row-passes, neither, not-isnt}
 use Rattle.records.specs.Bytes.{AllBytes, lengthField, kindField, lengthTold, header}
 use Rattle.records.specs.Job.{jobKind, noJobLength, formOrder}
 use Rattle.records.proofs.Laws.{length-known}
-use Rattle.records.proofs.One.{header-is}
+use Rattle.records.proofs.One.{header-is, drop-bytes}
 use Rattle.past.specs.Past.{Call, Begin, Step, Collect, Drop, ReadWord, ReadLock, Show, Park, AllRecords}
-use Rattle.calls.specs.Record.{callKind, lastCall, callField, workerField, lockField, lastField, cutShort, noCallLength, unusedLock, badHead, noCall, recordTold, callWith, jobIn, callIn, byteOf, recordWith, callRecord}
+use Rattle.calls.specs.Record.{callKind, lastCall, callField, workerField, lockField, lastField, cutShort, noCallLength, lockUnused, badHead, noCall, recordTold, callWith, jobIn, callIn, cappedOf, recordWith, callRecord}
 use Rattle.calls.proofs.Laws.{Holds, holds, other-record}
 use Rattle.recorded.specs.Recorded.{isWritten, inBytes}
 
@@ -53,7 +53,7 @@ module _ (call w l : ℕ) (code rest : List ℕ) (m : 8 + length code < 65536) w
   written-length = omega arith
 
   written-holds :
-      call ≤ lastCall → unusedLock call (byteOf l) ≡ false → noCallLength call (8 + length code) ≡ false → Holds written
+      call ≤ lastCall → lockUnused call (cappedOf l) ≡ false → noCallLength call (8 + length code) ≡ false → Holds written
   unfolding recordWith
   written-holds c u s = record {
     least = omega (arith, written-length);
@@ -132,7 +132,7 @@ read-back (Begin w l rec) rest b h =
     let f = written-form w l rec h in (
       accepts _ (begun-holds rec f w l rest (b .0)),
       omega (arith, written-length 0 w l (drop 4 rec) rest (short rec f w l rest (b .0))),
-      ap (Begin (byteOf w) (byteOf l)) (begun-job rec f w l rest (b .0)),
+      ap (Begin (cappedOf w) (cappedOf l)) (begun-job rec f w l rest (b .0)),
     )
 read-back (Step w) rest b h = (accepts _ (written-holds 1 w 0 [] rest (omega arith) (omega arith) refl refl), refl, refl)
 read-back (Collect w) rest b h = (accepts _ (written-holds 2 w 0 [] rest (omega arith) (omega arith) refl refl), refl, refl)
@@ -190,8 +190,8 @@ module _ (s : List ℕ) (b : AllBytes s) (h : recordTold s ≡ Accepted) where
       let e1 = f .1 in
       let e2 : callKind ≡ getD s 2 0 = omega (arith, kept .kind, b 2) in
       let e3 : 0 ≡ getD s 3 0 = omega (arith, kept .kind, b 2) in
-      let e5 : byteOf (workerField s) ≡ getD s 5 0 = omega (arith, b 5) in
-      let e6 : byteOf (lockField s) ≡ getD s 6 0 = omega (arith, b 6) in
+      let e5 : cappedOf (workerField s) ≡ getD s 5 0 = omega (arith, b 5) in
+      let e6 : cappedOf (lockField s) ≡ getD s 6 0 = omega (arith, b 6) in
       let e7 : 0 ≡ getD s 7 0 = sym (kept .last) in
       front ∙ cc
 
@@ -225,3 +225,85 @@ module _ (s : List ℕ) (b : AllBytes s) (h : recordTold s ≡ Accepted) where
           ap (λ (l : ℕ). recordWith (callField s) (workerField s) l codeIn) (no-lock k) ∙
           ap (recordWith (callField s) (workerField s) 0) (no-code k) ∙
           other-record (callField s) (workerField s) (lockField s) (jobIn s) k (kept .call)
+
+-- bytes: those of a record, and the first n of a list
+header-bytes : (n kind : ℕ) (body : List ℕ) → kind < 256 → AllBytes body → AllBytes (header n kind body)
+header-bytes n kind body h b zero = omega arith
+header-bytes n kind body h b (suc zero) = omega arith
+header-bytes n kind body h b (suc (suc zero)) = h
+header-bytes n kind body h b (suc (suc (suc zero))) = omega arith
+header-bytes n kind body h b (suc (suc (suc (suc k)))) = b k
+
+take-bytes : (n : ℕ) (l : List ℕ) → AllBytes l → AllBytes (take n l)
+take-bytes zero l b k = omega arith
+take-bytes (suc n) [] b k = b k
+take-bytes (suc n) (x ∷ l) b zero = b zero
+take-bytes (suc n) (x ∷ l) b (suc k) = take-bytes n l (λ j. b (suc j)) k
+
+field-of : (n : ℕ) → n < 65536 → n % 256 + 256 * (n / 256 % 256) ≡ n
+field-of n k = omega arith
+
+-- the job record of an accepted begin's record
+module _ (s : List ℕ) (b : AllBytes s) (h : recordTold s ≡ Accepted) where
+  job-bytes : AllBytes (jobIn s)
+  unfolding jobIn
+  job-bytes =
+      header-bytes (lengthField s - 4) jobKind (take (lengthField s - 8) (drop 8 s)) (omega arith)
+      (take-bytes (lengthField s - 8) (drop 8 s) (drop-bytes 8 s b))
+
+  job-length : length (jobIn s) ≡ lengthField s - 4
+  unfolding jobIn
+  job-length = omega (arith, codeIn-length s b h, holds s h .least)
+
+  job-field : lengthField (jobIn s) ≡ length (jobIn s)
+  unfolding jobIn
+  job-field = field-of (lengthField s - 4) (omega (arith, b 0, b 1)) ∙ sym job-length
+
+  job-kind : kindField (jobIn s) ≡ jobKind
+  unfolding jobIn
+  job-kind = refl
+
+  job-form : callField s ≡ 0 → firstOf (formOrder (jobIn s)) ≡ Accepted
+  job-form z =
+      let k : noJobLength (length (jobIn s)) ≡ false =
+      ap noJobLength job-length ∙
+      pick-eq (callField s) 0 (noJobLength (lengthField s - 4)) (noJobLength (lengthField s - 4)) _ z refl ∙ holds s h .size in
+      simp (
+        le-ltb (length (jobIn s)) 4 (omega (arith, job-length, holds s h .least)),
+        eq-eqb (lengthField (jobIn s)) (length (jobIn s)) job-field,
+        job-kind,
+        k,
+      )
+
+-- a call of these numbers has a record, and its record is of bytes
+call-written :
+    (c w l : ℕ) (rec : List ℕ) → (c ≡ 0 → firstOf (formOrder rec) ≡ Accepted) → isWritten (callWith c w l rec) ≡ true
+unfolding callWith isWritten
+call-written c w l rec f = go (eqb c 0) (eqb c 1) (eqb c 2) (λ e. f (eqb-true c 0 e))
+  where
+    go :
+        (p q r : Bool) → (p ≡ true → firstOf (formOrder rec) ≡ Accepted) →
+        isWritten (pick p (Begin w l rec) (pick q (Step w) (pick r (Collect w) (Drop w)))) ≡ true
+    go true q r f = simp (f refl)
+    go false true r f = refl
+    go false false true f = refl
+    go false false false f = refl
+
+call-bytes : (c w l : ℕ) (rec : List ℕ) (cs : List Call) → AllBytes rec → AllRecords cs → AllRecords (callWith c w l rec ∷ cs)
+unfolding callWith AllRecords
+call-bytes c w l rec cs b h = go (eqb c 0) (eqb c 1) (eqb c 2)
+  where
+    go : (p q r : Bool) → AllRecords (pick p (Begin w l rec) (pick q (Step w) (pick r (Collect w) (Drop w))) ∷ cs)
+    go true q r = (b, h)
+    go false true r = h
+    go false false true = h
+    go false false false = h
+
+pub whole-call :
+    (s : List ℕ) → AllBytes s → recordTold s ≡ Accepted →
+    (isWritten (callIn s) ≡ true) × (take (lengthField s) s ≡ callRecord (callIn s))
+whole-call s b h =
+    (call-written (callField s) (workerField s) (lockField s) (jobIn s) (job-form s b h), record-of-call s b h)
+
+pub calls-in : (s : List ℕ) (cs : List Call) → AllBytes s → recordTold s ≡ Accepted → AllRecords cs → AllRecords (callIn s ∷ cs)
+calls-in s cs b h = call-bytes (callField s) (workerField s) (lockField s) (jobIn s) cs (job-bytes s b h)

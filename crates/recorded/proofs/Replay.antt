@@ -1,29 +1,31 @@
 -- A file's records are walked as their calls are made directly, whatever follows them.
-use Prim.Native.Nat.{ℕ, zero, suc, _+_, _≤_}
-use mathlib.Core.Path.{_≡_, refl, _∙_, sym, ap}
+use Prim.Native.Nat.{ℕ, zero, suc, _+_, _≤_, _<_}
+use mathlib.Core.Path.{_≡_, refl, _∙_, sym, ap, ap₂}
 use mathlib.Core.Bool.{Bool, true, false}
 use mathlib.Core.List.{List, [], _∷_, _++_, append-assoc, append-nil}
 use native.Mathlib.Omega.{arith}
-use lib.ListN.{length, take, drop, length-append}
+use lib.ListN.{length, take, drop, length-drop, length-append, take-append-drop}
 use lib.Seq.{take-append-seam, drop-append-seam}
 use borrow.Author.Tests.{le-ltb}
 use Rattle.parts.specs.Pick.{pick}
+use Rattle.parts.specs.declared.Refusal.{Refusal}
 use Rattle.parts.specs.declared.Told.{Told}
 use Rattle.parts.specs.declared.Told.the-variants.{Accepted, Refused}
-use Rattle.records.specs.Bytes.{lengthField, lengthTold}
+use Rattle.records.specs.Bytes.{AllBytes, lengthField, lengthTold}
 use Rattle.records.specs.Setup.{setupTold}
 use Rattle.records.proofs.Laws.{length-known}
-use Rattle.records.proofs.One.{setup-sized}
+use Rattle.records.proofs.One.{setup-sized, drop-bytes}
 use Rattle.engine.specs.Calls.{outcomeOf, freshOf, setupOf}
 use Rattle.engine.specs.State.{blankOf}
 use Rattle.engine.specs.declared.Engine.{Engine}
 use Rattle.past.specs.Past.{Call, Begin, Step, Collect, Drop, ReadWord, ReadLock, Show, Park, after, afterAll, AllRecords}
 use Rattle.calls.specs.Record.{recordTold, callIn, callRecord}
-use Rattle.files.specs.File.{lineOf, Walked, _before_, walkFrom, lineText, linesText, setupText, walkedFrom, mostFile, printedOf}
+use Rattle.calls.proofs.Laws.{holds}
+use Rattle.files.specs.File.{callLine, Walked, _before_, walkFrom, lineText, linesText, setupText, walkedFrom, mostFile, noSetup, setupState, printedOf, replayedState}
 use Rattle.files.specs.declared.make.Line.{Line}
 use Rattle.files.proofs.Walks.{walk-record}
-use Rattle.recorded.specs.Recorded.{isWritten, recordsOf, fileOf, linesAlong, inBytes, IsFile}
-use Rattle.recorded.proofs.Encoding.{read-back}
+use Rattle.recorded.specs.Recorded.{isWritten, recordsOf, fileOf, linesAlong, inBytes, IsFile, Split}
+use Rattle.recorded.proofs.Encoding.{read-back, whole-call, calls-in}
 use Rattle.recorded.proofs.Same.{told-same, left-same, unwritten-refused}
 
 -- the records of a history: of its first call, and of the others
@@ -68,15 +70,15 @@ told-before lines walked = record { lines = lines ++ walked .lines; engine = wal
 -- one record, whatever follows it
 one-record :
     (e : Engine) (c : Call) (rest : List ℕ) → AllRecords (c ∷ []) → isWritten c ≡ true →
-    walkFrom zero e (callRecord c ++ rest) ≡ (lineOf e c before walkFrom zero (after e c) rest)
+    walkFrom zero e (callRecord c ++ rest) ≡ (callLine e c before walkFrom zero (after e c) rest)
 one-record e c rest b h =
     let s = callRecord c ++ rest in
     let r = read-back c rest b h in
     walk-record e s (r .0) ∙
-    ap (λ (k : Call). lineOf e k before walkFrom zero (after e k) (drop (lengthField s) s)) (r .2) ∙
+    ap (λ (k : Call). callLine e k before walkFrom zero (after e k) (drop (lengthField s) s)) (r .2) ∙
     ap (λ (m : Line). m before walkFrom zero (after e (inBytes c)) (drop (lengthField s) s)) (told-same e c) ∙
-    ap (λ (f : Engine). lineOf e c before walkFrom zero f (drop (lengthField s) s)) (left-same e c) ∙
-    ap (λ (t : List ℕ). lineOf e c before walkFrom zero (after e c) t)
+    ap (λ (f : Engine). callLine e c before walkFrom zero f (drop (lengthField s) s)) (left-same e c) ∙
+    ap (λ (t : List ℕ). callLine e c before walkFrom zero (after e c) t)
     (ap (λ (n : ℕ). drop n s) (r .1) ∙ drop-append-seam (callRecord c) rest)
 
 pub walks :
@@ -91,10 +93,10 @@ walks e (c ∷ cs) rest b = go (walks (after e c) cs rest (bytes-rest c cs b)) (
         told-before (linesAlong (after e c) cs) (walkFrom zero (afterAll (after e c) cs) rest) →
         (q : Bool) → isWritten c ≡ q →
         walkFrom zero e ((pick q (callRecord c) [] ++ recordsOf cs) ++ rest) ≡
-        told-before (pick q (lineOf e c ∷ []) [] ++ linesAlong (after e c) cs) (walkFrom zero (afterAll (after e c) cs) rest)
+        told-before (pick q (callLine e c ∷ []) [] ++ linesAlong (after e c) cs) (walkFrom zero (afterAll (after e c) cs) rest)
     go next true h =
         ap (walkFrom zero e) (append-assoc (callRecord c) (recordsOf cs) rest) ∙
-        one-record e c (recordsOf cs ++ rest) (bytes-first c cs b) h ∙ ap (λ (w : Walked). lineOf e c before w) next
+        one-record e c (recordsOf cs ++ rest) (bytes-first c cs b) h ∙ ap (λ (w : Walked). callLine e c before w) next
     go next false h = ap (λ (f : Engine). walkFrom zero f (recordsOf cs ++ rest)) (sym (unwritten-left e c h)) ∙ next
 
 -- the lines of two lists, one after the other
@@ -158,15 +160,65 @@ module _ (setup : List ℕ) (cs : List Call) (rest : List ℕ) (f : IsFile setup
       ap (λ (s : List ℕ). walkFrom zero (setupOf s .engine) (drop (lengthField file) file)) front ∙
       ap (walkFrom zero (setupOf setup .engine)) after-setup ∙ walks (setupOf setup .engine) cs rest (f .bytes)
 
+  has-setup : length file ≤ mostFile → noSetup file ≡ false
+  has-setup m =
+      let n : lengthField file ≤ length file = omega (arith, field, ap length file-is, length-append setup (recordsOf cs ++ rest)) in
+      simp (le-ltb mostFile (length file) m, le-ltb (length file) 2 (omega (arith, n, field, size .0)), le-ltb (length file) (lengthField file) n)
+
+  is-accepted : setupOf (take (lengthField file) file) .told ≡ Accepted
+  is-accepted = ap (λ (s : List ℕ). setupOf s .told) front ∙ f .accepted
+
   pub printed : length file ≤ mostFile → printedOf file ≡ linesText 0 (told-all .lines)
   unfolding printedOf setupText
-  printed m =
-      let n : lengthField file ≤ length file = omega (arith, field, ap length file-is, length-append setup (recordsOf cs ++ rest)) in
-      let t : setupOf (take (lengthField file) file) .told ≡ Accepted = ap (λ (s : List ℕ). setupOf s .told) front ∙ f .accepted in
-      simp (le-ltb mostFile (length file) m, le-ltb (length file) 2 (omega (arith, n, field, size .0)), le-ltb (length file) (lengthField file) n, t)
-      (ap (λ (w : Walked). linesText 0 (w .lines)) walked)
+  printed m = simp (has-setup m, is-accepted) (ap (λ (w : Walked). linesText 0 (w .lines)) walked)
+
+  pub left-state : length file ≤ mostFile → replayedState file ≡ told-all .engine
+  unfolding replayedState setupState
+  left-state m = simp (has-setup m, is-accepted) (ap (λ (w : Walked). w .engine) walked)
 
 -- nothing follows
 pub walk-none : (e : Engine) (lines : List Line) → told-before lines (walkFrom zero e []) ≡ record { lines = lines; engine = e }
 unfolding walkFrom
 walk-none e lines = ap (λ (l : List Line). record { lines = l; engine = e }) (append-nil lines)
+
+-- the records of the first calls of a history are bytes
+pub bytes-before : (cs more : List Call) → AllRecords (cs ++ more) → AllRecords cs
+unfolding AllRecords
+bytes-before [] more h = tt
+bytes-before (Begin w l rec ∷ cs) more h = (h .0, bytes-before cs more (h .1))
+bytes-before (Step w ∷ cs) more h = bytes-before cs more h
+bytes-before (Collect w ∷ cs) more h = bytes-before cs more h
+bytes-before (Drop w ∷ cs) more h = bytes-before cs more h
+bytes-before (ReadWord i ∷ cs) more h = bytes-before cs more h
+bytes-before (ReadLock l ∷ cs) more h = bytes-before cs more h
+bytes-before (Show s room ∷ cs) more h = bytes-before cs more h
+bytes-before (Park room ∷ cs) more h = bytes-before cs more h
+
+-- Every string of bytes, of at most n, is the records of some calls and what is left.
+pub splits : (n : ℕ) (s : List ℕ) → length s ≤ n → AllBytes s → Split s
+unfolding recordsOf AllRecords
+splits zero [] k b = record { calls = []; rest = []; bytes = tt; is = refl; ends = λ h. absurd (omega arith) }
+splits zero (x ∷ s) k b = absurd (omega arith)
+splits (suc n) [] k b = record { calls = []; rest = []; bytes = tt; is = refl; ends = λ h. absurd (omega arith) }
+splits (suc n) (x ∷ s) k b =
+    go (recordTold (x ∷ s)) refl
+    (λ h. splits n (drop (lengthField (x ∷ s)) (x ∷ s)) (omega (arith, length-drop (lengthField (x ∷ s)) (x ∷ s), holds (x ∷ s) h .least, k))
+    (drop-bytes (lengthField (x ∷ s)) (x ∷ s) b))
+  where
+    go :
+        (t : Told) → recordTold (x ∷ s) ≡ t →
+        (recordTold (x ∷ s) ≡ Accepted → Split (drop (lengthField (x ∷ s)) (x ∷ s))) → Split (x ∷ s)
+    go (Refused r) e next = record { calls = []; rest = x ∷ s; bytes = tt; is = refl; ends = λ h. (r, e) }
+    go Accepted e next =
+        let later = next e in
+        let c = whole-call (x ∷ s) b e in
+        record {
+          calls = callIn (x ∷ s) ∷ later .calls;
+          rest = later .rest;
+          bytes = calls-in (x ∷ s) (later .calls) b e (later .bytes);
+          is =
+              sym (take-append-drop (lengthField (x ∷ s)) (x ∷ s)) ∙ ap₂ (λ (a d : List ℕ). a ++ d) (c .1) (later .is) ∙
+              sym (append-assoc (callRecord (callIn (x ∷ s))) (recordsOf (later .calls)) (later .rest)) ∙
+              ap (λ (q : Bool). (pick q (callRecord (callIn (x ∷ s))) [] ++ recordsOf (later .calls)) ++ later .rest) (sym (c .0));
+          ends = later .ends;
+        }

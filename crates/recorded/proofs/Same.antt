@@ -23,14 +23,14 @@ use Rattle.engine.specs.declared.Collected.{Collected}
 use Rattle.engine.specs.declared.Engine.{Engine}
 use Rattle.engine.specs.declared.Outcome.{Outcome}
 use Rattle.past.specs.Past.{Call, Begin, Step, Collect, Drop, ReadWord, ReadLock, Show, Park, after}
-use Rattle.calls.specs.Record.{byteOf}
-use Rattle.files.specs.File.{toldLine, collectLine, lineOf}
+use Rattle.calls.specs.Record.{cappedOf}
+use Rattle.files.specs.File.{toldLine, collectLine, callLine}
 use Rattle.recorded.specs.Recorded.{isWritten, inBytes}
 
 -- a number and its byte: they are the same, or both are past a bound of at most 255
 data Byte (bound n : ℕ) : Type 0 where
-  is : byteOf n ≡ n → Byte bound n
-  past : bound ≤ byteOf n → bound ≤ n → Byte bound n
+  is : cappedOf n ≡ n → Byte bound n
+  past : bound ≤ cappedOf n → bound ≤ n → Byte bound n
 
 byte : (bound n : ℕ) → bound ≤ 255 → Byte bound n
 byte bound n h = go (leb n 255) refl
@@ -52,45 +52,45 @@ no-worker : (e : Engine) (w l : ℕ) (rec : List ℕ) → workers ≤ w → begi
 unfolding beginOf beginTold
 no-worker e w l rec h = simp (le-leb workers w h)
 
-begin-worker : (e : Engine) (w l : ℕ) (rec : List ℕ) → beginOf e (byteOf w) l rec ≡ beginOf e w l rec
+begin-worker : (e : Engine) (w l : ℕ) (rec : List ℕ) → beginOf e (cappedOf w) l rec ≡ beginOf e w l rec
 begin-worker e w l rec = go (byte workers w (omega arith))
   where
-    go : Byte workers w → beginOf e (byteOf w) l rec ≡ beginOf e w l rec
+    go : Byte workers w → beginOf e (cappedOf w) l rec ≡ beginOf e w l rec
     go (is h) = ap (λ (v : ℕ). beginOf e v l rec) h
-    go (past h k) = no-worker e (byteOf w) l rec h ∙ sym (no-worker e w l rec k)
+    go (past h k) = no-worker e (cappedOf w) l rec h ∙ sym (no-worker e w l rec k)
 
 no-step : (e : Engine) (v : ℕ) → workers ≤ v → stepOf e v ≡ record { engine = e; told = Refused NoWorker }
 unfolding stepOf
 no-step e v h = simp (le-leb workers v h)
 
-step-worker : (e : Engine) (w : ℕ) → stepOf e (byteOf w) ≡ stepOf e w
+step-worker : (e : Engine) (w : ℕ) → stepOf e (cappedOf w) ≡ stepOf e w
 step-worker e w = go (byte workers w (omega arith))
   where
-    go : Byte workers w → stepOf e (byteOf w) ≡ stepOf e w
+    go : Byte workers w → stepOf e (cappedOf w) ≡ stepOf e w
     go (is h) = ap (stepOf e) h
-    go (past h k) = no-step e (byteOf w) h ∙ sym (no-step e w k)
+    go (past h k) = no-step e (cappedOf w) h ∙ sym (no-step e w k)
 
 no-collect : (e : Engine) (v : ℕ) → workers ≤ v → collectOf e v ≡ record { engine = e; told = CollectTold.Refused NoWorker }
 unfolding collectOf
 no-collect e v h = simp (le-leb workers v h)
 
-collect-worker : (e : Engine) (w : ℕ) → collectOf e (byteOf w) ≡ collectOf e w
+collect-worker : (e : Engine) (w : ℕ) → collectOf e (cappedOf w) ≡ collectOf e w
 collect-worker e w = go (byte workers w (omega arith))
   where
-    go : Byte workers w → collectOf e (byteOf w) ≡ collectOf e w
+    go : Byte workers w → collectOf e (cappedOf w) ≡ collectOf e w
     go (is h) = ap (collectOf e) h
-    go (past h k) = no-collect e (byteOf w) h ∙ sym (no-collect e w k)
+    go (past h k) = no-collect e (cappedOf w) h ∙ sym (no-collect e w k)
 
 no-drop : (e : Engine) (v : ℕ) → workers ≤ v → dropOf e v ≡ record { engine = e; told = Refused NoWorker }
 unfolding dropOf
 no-drop e v h = simp (le-leb workers v h)
 
-drop-worker : (e : Engine) (w : ℕ) → dropOf e (byteOf w) ≡ dropOf e w
+drop-worker : (e : Engine) (w : ℕ) → dropOf e (cappedOf w) ≡ dropOf e w
 drop-worker e w = go (byte workers w (omega arith))
   where
-    go : Byte workers w → dropOf e (byteOf w) ≡ dropOf e w
+    go : Byte workers w → dropOf e (cappedOf w) ≡ dropOf e w
     go (is h) = ap (dropOf e) h
-    go (past h k) = no-drop e (byteOf w) h ∙ sym (no-drop e w k)
+    go (past h k) = no-drop e (cappedOf w) h ∙ sym (no-drop e w k)
 
 -- the lock: where it is none, begin's rows before it are the same
 no-lock :
@@ -102,18 +102,18 @@ no-lock e w k rec x h =
     simp (le-leb (lockCount e) k h)
     (refused-then e (takenOf e w k rec) x (refuseIf (leb workers w) NoWorker) (beginByState (workerAt e w)) NoLock)
 
-begin-lock : (e : Engine) (w l : ℕ) (rec : List ℕ) → beginOf e w (byteOf l) rec ≡ beginOf e w l rec
+begin-lock : (e : Engine) (w l : ℕ) (rec : List ℕ) → beginOf e w (cappedOf l) rec ≡ beginOf e w l rec
 begin-lock e w l rec = go (byte (lockCount e) l (omega arith))
   where
-    go : Byte (lockCount e) l → beginOf e w (byteOf l) rec ≡ beginOf e w l rec
+    go : Byte (lockCount e) l → beginOf e w (cappedOf l) rec ≡ beginOf e w l rec
     go (is h) = ap (λ (k : ℕ). beginOf e w k rec) h
-    go (past h k) = no-lock e w (byteOf l) rec e h ∙ sym (no-lock e w l rec e k)
+    go (past h k) = no-lock e w (cappedOf l) rec e h ∙ sym (no-lock e w l rec e k)
 
-begin-same : (e : Engine) (w l : ℕ) (rec : List ℕ) → beginOf e (byteOf w) (byteOf l) rec ≡ beginOf e w l rec
-begin-same e w l rec = begin-worker e w (byteOf l) rec ∙ begin-lock e w l rec
+begin-same : (e : Engine) (w l : ℕ) (rec : List ℕ) → beginOf e (cappedOf w) (cappedOf l) rec ≡ beginOf e w l rec
+begin-same e w l rec = begin-worker e w (cappedOf l) rec ∙ begin-lock e w l rec
 
-pub told-same : (e : Engine) (c : Call) → lineOf e (inBytes c) ≡ lineOf e c
-unfolding lineOf inBytes
+pub told-same : (e : Engine) (c : Call) → callLine e (inBytes c) ≡ callLine e c
+unfolding callLine inBytes
 told-same e (Begin w l rec) = ap (λ (o : Outcome). toldLine (o .told)) (begin-same e w l rec)
 told-same e (Step w) = ap (λ (o : Outcome). toldLine (o .told)) (step-worker e w)
 told-same e (Collect w) = ap (λ (o : Collected). collectLine (o .told)) (collect-worker e w)

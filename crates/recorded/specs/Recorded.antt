@@ -2,13 +2,13 @@
 mod Names
 use Names.*
 use Rattle.parts.specs.Pick.{pick}
-use Rattle.parts.specs.Told.{onTold, firstOf}
+use Rattle.parts.specs.Told.{onTold, firstOf, refusalNumber}
 use Rattle.records.specs.Bytes.{AllBytes, lengthField}
 use Rattle.records.specs.Job.{formOrder}
 use Rattle.engine.specs.Calls.{setupOf, beginOf}
 use Rattle.past.specs.Past.{Call, Begin, Step, Collect, Drop, ReadWord, ReadLock, Show, Park, after, afterAll, AllRecords}
-use Rattle.calls.specs.Record.{recordTold, callIn, byteOf, callRecord}
-use Rattle.files.specs.File.{lineOf, walkFrom, walkedFrom, linesText, mostFile, printedOf}
+use Rattle.calls.specs.Record.{recordTold, callIn, cappedOf, callRecord}
+use Rattle.files.specs.File.{callLine, walkFrom, walkedFrom, lineText, linesText, mostFile, printedOf, replayedState}
 
 -- Which calls have a record: a begin whose bytes are a job record by 5 and 6, a step, a collect, a drop.
 unfoldable pub isWritten : Call → Bool
@@ -32,52 +32,69 @@ fileOf setup cs = setup ++ recordsOf cs
 -- what the calls tell that are made directly, one after the other, from state e: those that have a record
 unfoldable pub linesAlong : Engine → List Call → List Line
 linesAlong e [] = []
-linesAlong e (c ∷ cs) = pick (isWritten c) (lineOf e c ∷ []) [] ++ linesAlong (after e c) cs
+linesAlong e (c ∷ cs) = pick (isWritten c) (callLine e c ∷ []) [] ++ linesAlong (after e c) cs
 
 -- a call as its record has it: a worker or lock above 255 is written as 255
 unfoldable pub inBytes : Call → Call
-inBytes (Begin w l rec) = Begin (byteOf w) (byteOf l) rec
-inBytes (Step w) = Step (byteOf w)
-inBytes (Collect w) = Collect (byteOf w)
-inBytes (Drop w) = Drop (byteOf w)
+inBytes (Begin w l rec) = Begin (cappedOf w) (cappedOf l) rec
+inBytes (Step w) = Step (cappedOf w)
+inBytes (Collect w) = Collect (cappedOf w)
+inBytes (Drop w) = Drop (cappedOf w)
 inBytes (ReadWord i) = ReadWord i
 inBytes (ReadLock l) = ReadLock l
 inBytes (Show s room) = Show s room
 inBytes (Park room) = Park room
 
--- Call records have one encoding, and lose nothing that an answer shows.
+-- Call records have one encoding.
 pub record OneEncoding : Type 0 where
-  -- two accepted records that make one call are the same bytes
-  pub one :
-      (s t : List ℕ) → AllBytes s → AllBytes t → recordTold s ≡ Accepted → recordTold t ≡ Accepted → callIn s ≡ callIn t →
-      take (lengthField s) s ≡ take (lengthField t) t
   -- reading what was written, whatever follows it, gives the call back
   pub back :
       (c : Call) (rest : List ℕ) → AllRecords (c ∷ []) → isWritten c ≡ true →
       (recordTold (callRecord c ++ rest) ≡ Accepted) ×
       (lengthField (callRecord c ++ rest) ≡ length (callRecord c)) ×
       (callIn (callRecord c ++ rest) ≡ inBytes c)
-  -- a call with 255 for a number above gets the same answer, and leaves the same state
-  pub told : (e : Engine) (c : Call) → lineOf e (inBytes c) ≡ lineOf e c
+  -- an accepted record is the record of the call that it makes
+  pub whole :
+      (s : List ℕ) → AllBytes s → recordTold s ≡ Accepted →
+      (isWritten (callIn s) ≡ true) × (take (lengthField s) s ≡ callRecord (callIn s))
+  -- so two accepted records that make one call are the same bytes
+  pub one :
+      (s t : List ℕ) → AllBytes s → AllBytes t → recordTold s ≡ Accepted → recordTold t ≡ Accepted → callIn s ≡ callIn t →
+      take (lengthField s) s ≡ take (lengthField t) t
+
+-- What a record does not have changes nothing.
+pub record NothingLost : Type 0 where
+  -- a call with 255 in place of a greater number tells the same, and leaves the same state
+  pub told : (e : Engine) (c : Call) → callLine e (inBytes c) ≡ callLine e c
   pub left : (e : Engine) (c : Call) → after e (inBytes c) ≡ after e c
   -- a begin that has no record is refused and changes nothing
   pub unwritten :
       (e : Engine) (w l : ℕ) (rec : List ℕ) → isWritten (Begin w l rec) ≡ false →
       ((r : Refusal) × (beginOf e w l rec .told ≡ Refused r)) × (beginOf e w l rec .engine ≡ e)
 
--- the file of some calls, which a setup record begins that setup accepts; it is short enough to be read
+-- a file that is short enough to be read, of a setup record that setup accepts and the records of some calls
 pub record IsFile (setup : List ℕ) (cs : List Call) : Type 0 where
   pub accepted : setupOf setup .told ≡ Accepted
   pub bytes : AllRecords cs
   pub most : length (fileOf setup cs) ≤ mostFile
 
+-- bytes that are the records of some calls, and what is left: nothing, or a record that is refused
+pub record Split (s : List ℕ) : Type 0 where
+  pub calls : List Call
+  pub rest : List ℕ
+  pub bytes : AllRecords calls
+  pub is : s ≡ recordsOf calls ++ rest
+  pub ends : 0 < length rest → (r : Refusal) × (recordTold rest ≡ Refused r)
+
 pub record Replays : Type 0 where
-  -- a cut at a record's edge after the setup is the file of the calls before it
-  pub edges : (setup : List ℕ) (cs more : List Call) → fileOf setup (cs ++ more) ≡ fileOf setup cs ++ recordsOf more
-  -- a file gives the state and the answers of the calls made directly, and what is printed is those
+  -- a file cut at a record's edge after the setup is the file of the calls before the edge
+  pub cut :
+      (setup : List ℕ) (cs more : List Call) → IsFile setup (cs ++ more) →
+      (take (length (fileOf setup cs)) (fileOf setup (cs ++ more)) ≡ fileOf setup cs) × IsFile setup cs
+  -- a file leaves the state of the calls made directly, tells what those of them tell that have a record, and that is printed
   pub state :
       (setup : List ℕ) (cs : List Call) → IsFile setup cs →
-      walkedFrom (fileOf setup cs) (lengthField (fileOf setup cs)) .engine ≡ afterAll (setupOf setup .engine) cs
+      replayedState (fileOf setup cs) ≡ afterAll (setupOf setup .engine) cs
   pub answers :
       (setup : List ℕ) (cs : List Call) → IsFile setup cs →
       walkedFrom (fileOf setup cs) (lengthField (fileOf setup cs)) .lines ≡ linesAlong (setupOf setup .engine) cs
@@ -90,3 +107,13 @@ pub record Replays : Type 0 where
       printedOf (fileOf setup cs ++ rest) ≡
       printedOf (fileOf setup cs) ++
       linesText (length (linesAlong (setupOf setup .engine) cs)) (walkFrom 0 (afterAll (setupOf setup .engine) cs) rest .lines)
+  -- "Each ends the walk after its line, ending 0 0": a record that is refused has one more line, and no call after it is made
+  pub ends :
+      (setup : List ℕ) (cs : List Call) (rest : List ℕ) (r : Refusal) → IsFile setup cs →
+      length (fileOf setup cs ++ rest) ≤ mostFile → 0 < length rest → recordTold rest ≡ Refused r →
+      (printedOf (fileOf setup cs ++ rest) ≡
+      printedOf (fileOf setup cs) ++
+      lineText (length (linesAlong (setupOf setup .engine) cs)) (record { number = refusalNumber r; answer = 0; steps = 0 })) ×
+      (replayedState (fileOf setup cs ++ rest) ≡ afterAll (setupOf setup .engine) cs)
+  -- and every string of bytes is the records of some calls, up to its end or to a record that is refused
+  pub every : (s : List ℕ) → AllBytes s → Split s

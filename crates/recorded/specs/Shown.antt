@@ -4,9 +4,11 @@ use mathlib.Core.Path.{_≡_}
 use mathlib.Core.List.{List, [], _∷_, _++_}
 use lib.ListN.{replicate}
 use Rattle.past.specs.Past.{Call, Begin, Step, Collect, steps}
-use Rattle.files.specs.File.{refusedLine, acceptedLine, printedOf}
+use Rattle.parts.specs.declared.Told.the-variants.{Refused}
+use Rattle.calls.specs.Record.{recordTold}
+use Rattle.files.specs.File.{refusedLine, acceptedLine, linesText, printedOf}
 use Rattle.files.specs.declared.make.Line.{Line}
-use Rattle.parts.specs.declared.Refusal.the-variants.{NoWorker, WorkerIdle}
+use Rattle.parts.specs.declared.Refusal.the-variants.{NoWorker, WorkerIdle, Length, Kind, CallRecord}
 use Rattle.tables.specs.Table.{setupS, jobA, fresh}
 use Rattle.recorded.specs.Recorded.{linesAlong, IsFile}
 
@@ -30,3 +32,13 @@ pub record Shown : Type 0 where
       48 ∷ 32 ∷ 49 ∷ 49 ∷ 32 ∷ 48 ∷ 32 ∷ 48 ∷ 10 ∷ []
   pub file : IsFile setupS sampleCalls
   pub lines : linesAlong fresh sampleCalls ≡ sampleLines
+  -- `16 0 1 14`: the line of its second collect
+  pub text :
+      linesText 16 (record { number = 0; answer = 1; steps = 14 } ∷ []) ≡
+      49 ∷ 54 ∷ 32 ∷ 48 ∷ 32 ∷ 49 ∷ 32 ∷ 49 ∷ 52 ∷ 10 ∷ []
+  -- 5 of a record that is cut short, also where its kind is another; then 6, also where it makes no call; then 17, of a begin
+  -- without instructions and of one with 33
+  pub five : recordTold (0x09 ∷ 0x00 ∷ 0x04 ∷ 0x00 ∷ 0x01 ∷ 0x00 ∷ 0x00 ∷ 0x00 ∷ []) ≡ Refused Length
+  pub six : recordTold (0x07 ∷ 0x00 ∷ 0x03 ∷ 0x01 ∷ 0x09 ∷ 0x00 ∷ 0x00 ∷ []) ≡ Refused Kind
+  pub none : recordTold (0x08 ∷ 0x00 ∷ 0x03 ∷ 0x00 ∷ 0x00 ∷ 0x00 ∷ 0x00 ∷ 0x00 ∷ []) ≡ Refused CallRecord
+  pub many : recordTold (0x8C ∷ 0x00 ∷ 0x03 ∷ 0x00 ∷ replicate 136 0) ≡ Refused CallRecord

@@ -13,6 +13,6 @@ fn main() {
     let mut file = [0u8; 65537];
     let mut text = [0u8; 688128];
     let n = io::read_full(0, &mut file);
-    let k = replay(&file[..n], &mut text);
-    tell(text, k);
+    let done = replay(&file[..n], &mut text);
+    tell(text, done.length);
 }

@@ -1,5 +1,5 @@
 -- What File.antt goes by and does not list itself: the library's symbols, the generated types and their cases.
-pub use Prim.Native.Nat.{ℕ, zero, suc, _+_, _-_}
+pub use Prim.Native.Nat.{ℕ, zero, suc, _+_, _-_, _*_}
 pub use mathlib.Core.Bool.{Bool}
 pub use mathlib.Core.List.{List, [], _∷_, _++_}
 pub use lib.Dec.{ltb}

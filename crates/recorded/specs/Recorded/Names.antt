@@ -1,5 +1,5 @@
 -- What Recorded.antt goes by and does not list itself: the library's symbols, the generated types and their cases.
-pub use Prim.Native.Nat.{ℕ, _≤_}
+pub use Prim.Native.Nat.{ℕ, _≤_, _<_}
 pub use mathlib.Core.Path.{_≡_}
 pub use mathlib.Core.Bool.{Bool, true, false}
 pub use mathlib.Core.List.{List, [], _∷_, _++_}

@@ -3,13 +3,13 @@ use mathlib.Core.Path.{sym}
 use lib.Seq.{length-take-le}
 use borrow.Author.Needs.{needs}
 use Rattle.past.specs.Past.{after}
-use Rattle.files.specs.File.{lineOf}
-use Rattle.files.specs.Made.{quietOf, madeOf}
+use Rattle.files.specs.File.{callLine}
+use Rattle.files.specs.Made.{quietMade, madeOf}
 use Rattle.files.proofs.make.on_begin.Statement.{statement}
 use Rattle.files.proofs.make.on_begin.Tie as tie
 
 pub on-begin-spec : {M : Type 1} → statement M
-unfolding madeOf quietOf lineOf after
+unfolding madeOf quietMade callLine after
 on-begin-spec =
     tie.close
     (tie.spec

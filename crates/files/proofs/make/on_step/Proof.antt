@@ -1,13 +1,13 @@
 -- Each return is what the definition picks on the way that led there.
 use borrow.Author.Needs.{needs}
 use Rattle.past.specs.Past.{after}
-use Rattle.files.specs.File.{lineOf}
-use Rattle.files.specs.Made.{quietOf, madeOf}
+use Rattle.files.specs.File.{callLine}
+use Rattle.files.specs.Made.{quietMade, madeOf}
 use Rattle.files.proofs.make.on_step.Statement.{statement}
 use Rattle.files.proofs.make.on_step.Tie as tie
 
 pub on-step-spec : {M : Type 1} → statement M
-unfolding madeOf quietOf lineOf after
+unfolding madeOf quietMade callLine after
 on-step-spec =
     tie.close
     (tie.spec

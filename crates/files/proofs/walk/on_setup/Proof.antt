@@ -2,7 +2,7 @@
 use borrow.Author.Needs.{needs}
 use mathlib.Core.Path.{sym}
 use lib.Seq.{length-take-le}
-use Rattle.files.proofs.Walks.{printed-refused, printed-walk}
+use Rattle.files.proofs.Walks.{printed-refused, printed-walk, state-refused, state-walk}
 use Rattle.files.proofs.walk.on_setup.Statement.{statement}
 use Rattle.files.proofs.walk.on_setup.Tie as tie
 
@@ -17,6 +17,6 @@ on-setup-spec =
     (λ c. search needs)
     (λ c κs. search needs)
     (λ c. search needs)
-    (λ c. search (printed-refused, printed-walk))
+    (λ c. (search printed-refused, search state-refused))
     (λ c. search needs)
-    (λ c. search (printed-refused, printed-walk)))
+    (λ c. (search printed-walk, search state-walk)))

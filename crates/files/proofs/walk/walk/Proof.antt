@@ -3,12 +3,12 @@ use borrow.Author.Needs.{needs}
 use Prim.Native.Nat.{_-_}
 use lib.ListN.{length, drop}
 use Rattle.files.specs.File.{walkFrom, linesText}
-use Rattle.files.proofs.Walks.{Left, left-start, left-end, line-room, index-next, not-end, left-refused, here-within, here-accepted, left-less, left-record}
+use Rattle.files.proofs.Walks.{Left, left-start, left-end, left-end-state, line-room, index-next, not-end, left-refused, left-refused-state, here-within, here-accepted, left-less, left-record}
 use Rattle.files.proofs.walk.walk.Statement.{statement}
 use Rattle.files.proofs.walk.walk.Tie as tie
 
 abbrev Inv-loop : tie.InvT-loop
-Inv-loop file from out₀ engine₀ place₀ index₀ at₀ out engine place index at = Left file (linesText 0 (walkFrom 0 engine₀ (drop from file) .lines)) out₀ engine place index at out
+Inv-loop file from out₀ engine₀ place₀ index₀ at₀ out engine place index at = Left file (linesText 0 (walkFrom 0 engine₀ (drop from file) .lines)) out₀ (walkFrom 0 engine₀ (drop from file) .engine) engine place index at out
 
 abbrev μ-loop : tie.MeasureT-loop
 μ-loop file from out₀ engine₀ place₀ index₀ at₀ out engine place index at = length file - place
@@ -28,7 +28,7 @@ walk-spec =
     (λ c κs. search needs)
     (λ c κs. search line-room)
     (λ c. search needs)
-    (λ c. search left-refused)
+    (λ c. (search left-refused, search left-refused-state))
     (λ c. search needs)
     (λ c. search here-within)
     (λ c. search here-within)
@@ -39,4 +39,4 @@ walk-spec =
     (λ c. search left-less)
     (λ c. search left-record)
     (λ c. search needs)
-    (λ c. search left-end))
+    (λ c. (search left-end, search left-end-state)))
