@@ -1,5 +1,5 @@
 -- What each of the nine calls tells and leaves, of any numbers that a caller lends: what the contracts of the C interface say, and what
--- the promises of a history of such calls (carried) are about.
+-- the promises of a history of such calls (carried) are about. Last, the writer of a call's record, which is lent no numbers.
 mod Names
 use Names.*
 use Rattle.cells.specs.Layout.{unpack}
@@ -7,6 +7,7 @@ use Rattle.engine.specs.Calls.{setupOf, beginOf, stepOf, collectOf, dropOf, rea
 use Rattle.lent.specs.Calls.{collectNumbers, dropNumbers}
 use Rattle.lent_step.specs.Points.{stepNumbers}
 use Rattle.lent_in.specs.Calls.{setupNumbers, beginNumbers}
+use Rattle.calls.specs.Record.{recordedOf, recordedIn}
 use Rattle.door.specs.Door.{unlessShort, shortReply, toldFields, noAnswer, collectedFields, noWord, wordFields, noLock, lockFields, noBytes, wroteFields}
 
 abbrev pub setupReply : List ℕ → List ℕ → Reply
@@ -57,3 +58,9 @@ parkReply s buf = unlessShort s (noBytes shortReply) (wroteFields (parkOf (unpac
 
 abbrev pub parkBuffer : List ℕ → List ℕ → List ℕ
 parkBuffer s buf = unlessShort s buf (parkedOf (unpack s) buf)
+
+abbrev pub recordReply : ℕ → ℕ → ℕ → List ℕ → List ℕ → Wrote
+recordReply call w l rec buf = wroteFields (recordedOf call w l rec (length buf))
+
+abbrev pub recordBuffer : ℕ → ℕ → ℕ → List ℕ → List ℕ → List ℕ
+recordBuffer call w l rec buf = recordedIn call w l rec buf

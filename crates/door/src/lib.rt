@@ -1,11 +1,11 @@
-// What C can call: the nine calls on numbers that the caller lends. A reply's number 0 says accepted; any other is a refusal's,
-// with its place. Fewer numbers than a state takes: 22, and nothing is changed.
+// What C can call: the nine calls on numbers that the caller lends, and the writer of a call's record. A reply's number 0 says
+// accepted; any other is a refusal's, with its place. Fewer numbers than a state takes: 22, and nothing is changed.
 ghost use mathlib.Core.Path.{_≡_};
 ghost use Prim.Native.Nat.{_≤_};
 ghost use lib.ListN.{length};
 ghost use Rattle.engine.specs.Calls.{setupOf, beginOf, stepOf, collectOf, dropOf};
 ghost use Rattle.cells.specs.Layout.{numbers, unpack};
-ghost use Rattle.door.specs.Calls.{setupReply, setupLeft, beginReply, beginLeft, stepReply, stepLeft, collectReply, collectLeft, dropReply, dropLeft, wordReply, lockReply, showReply, showBuffer, parkReply, parkBuffer};
+ghost use Rattle.door.specs.Calls.{setupReply, setupLeft, beginReply, beginLeft, stepReply, stepLeft, collectReply, collectLeft, dropReply, dropLeft, wordReply, lockReply, showReply, showBuffer, parkReply, parkBuffer, recordReply, recordBuffer};
 
 mod replies;
 
@@ -167,5 +167,21 @@ pub extern "C" fn chant_park(state: &[u32], buffer: &mut [u8]) -> Wrote
         return replies::no_bytes(replies::short());
     }
     let told = lent_out::park(state, buffer);
+    replies::wrote(told)
+}
+
+// The record of a call; step, collect and drop have no lock and no job record. Refused: 17, 5, 6, 13.
+#[no_mangle]
+pub extern "C" fn chant_record(
+    call: u32,
+    worker: u32,
+    lock: u32,
+    rec: &[u8],
+    buffer: &mut [u8],
+) -> Wrote
+    ensures { λ r. ⌜ r ≡ recordReply call worker lock (now (rec .entry)) (now (buffer .entry)) ⌝ }
+    ensures { λ _. ⌜ now (buffer .exit) ≡ recordBuffer call worker lock (now (rec .entry)) (now (buffer .entry)) ⌝ }
+{
+    let told = calls::write::record(call, worker, lock, rec, buffer);
     replies::wrote(told)
 }
