@@ -10,22 +10,25 @@ use borrow.Author.Tests.{ltb-false}
 use Rattle.arrays.specs.Fresh.{guardsOf, valuesOf, turnsOf}
 use Rattle.parts.specs.Numbers.{workers, sheets, mostLocks, mostWords, instructions, lastTurn}
 use Rattle.parts.specs.Parts.{wornOf}
-use Rattle.parts.specs.Pick.{_or_, _isnt_}
-use Rattle.parts.specs.Told.{refuseIf, refusalPlace, FirstAt}
+use Rattle.parts.specs.Pick.{pick, _or_, _isnt_}
+use Rattle.parts.specs.Told.{refuseIf, refusalPlace, firstOf, FirstAt}
 use Rattle.parts.specs.declared.Instr.{Instr}
 use Rattle.parts.specs.declared.LockWord.{LockWord}
 use Rattle.parts.specs.declared.Refusal.{Refusal}
-use Rattle.parts.specs.declared.Refusal.the-variants.{NoWorker, NoLock, WorkerUnderWay, NotCollected, Length, Kind, Instruction, Guard, LastTurn, NoSheet, WorkerIdle, Range, Buffer, SheetFree, Held, NoWord}
+use Rattle.parts.specs.declared.Refusal.the-variants.{NoWorker, NoLock, WorkerUnderWay, NotCollected, Length, Kind, Instruction, Guard, LastTurn, NoSheet, WorkerIdle, Range, Buffer, SheetFree, Held, NoWord, CallRecord}
 use Rattle.parts.specs.declared.Told.{Told}
 use Rattle.parts.specs.declared.Told.the-variants.{Accepted, Refused}
-use Rattle.parts.proofs.Order.{neither, not-isnt}
+use Rattle.parts.proofs.Order.{first-all, first-exactly, row-passes, neither, not-isnt}
 use Rattle.records.specs.Bytes.{wrongLength, u32sBytes, kindField}
-use Rattle.records.specs.Job.{jobKind, jobOf, badlyFormed, endsOtherwise, straysAt, noJobLength}
+use Rattle.records.specs.Job.{jobKind, jobOf, badlyFormed, endsOtherwise, straysAt, noJobLength, formOrder}
 use Rattle.records.specs.Setup.{setupKind, locksField, wordsField, guardsField, turnsField, setupLength, outside}
 use Rattle.records.proofs.Fours.{instrs-length, u32s-length, code-length, bytes-length}
-use Rattle.engine.specs.Calls.{isFree, showTold, showOf, parkTold, parkOf}
+use Rattle.engine.specs.Calls.{isFree, writeOf, showTold, showOf, parkTold, parkOf}
 use Rattle.engine.specs.State.{lockAt, freeSheet, lockCount, wordCount, locksOf, wordsOf, baseOf, programLength, programOf, sheetRecord, stateRecord}
 use Rattle.engine.specs.declared.Engine.{Engine}
+use Rattle.engine.specs.declared.WriteTold.{WriteTold}
+use Rattle.calls.specs.Record.{lastCall, callWith, callRecord, recordLength, writeOrder, writeTold, recordedOf}
+use Rattle.calls.proofs.Laws.{record-size, fits as written}
 use Rattle.refusals.specs.Orders.{stateOf, isIdle, isUnderWay, isFinished, codeRows, beginRows, stepRows, collectRows, dropRows, guardRows, turnRows, setupRows, wordRows, lockRows, showRows, isHeld, heldRows, parkRows, Given}
 use Rattle.there_and_back.proofs.Park.{wrote}
 use Rattle.refusals.proofs.Refusals.{exactly}
@@ -61,6 +64,13 @@ row n true r ts h k = (
   λ e. let z : _≡_ {A = ℕ} 0 1 = cc in absurd (omega arith),
 )
 row n false r ts h k = (λ q e. let z : _≡_ {A = ℕ} 0 1 = cc in absurd (omega arith), λ e. k refl)
+
+-- one that is itself an order of rows
+told-row :
+    (n : ℕ) (t : Told) (ts : List Told) → ((r : Refusal) → t ≡ Refused r → refusalPlace r < n) → Below n ts →
+    Below n (t ∷ ts)
+unfolding Below
+told-row n t ts h k = (h, λ _. k)
 
 -- the rows of the instructions, of the guards, of the turns and of the locks, before others
 code-below :
@@ -100,13 +110,15 @@ held-below n (l ∷ ls) at ts h k =
 most : {A : Type 0} (n : ℕ) (l : List A) → length (take n l) ≤ n
 most n l = omega (arith, length-take n l)
 
--- a record that passed the row on a job's length has a job of at most so many instructions
-job-most : (rec : List ℕ) → noJobLength (length rec) ≡ false → length (jobOf rec) ≤ instructions
-job-most rec h =
+-- a record that passed the row on a job's length has at most so many bytes, and a job of at most so many instructions
+record-most : (rec : List ℕ) → noJobLength (length rec) ≡ false → length rec ≤ 4 + 4 * instructions
+record-most rec h =
     let b = neither (length rec % 4 isnt 0) (ltb (length rec) 8 or ltb (4 + 4 * instructions) (length rec)) h in
     let c = neither (ltb (length rec) 8) (ltb (4 + 4 * instructions) (length rec)) (b .1) in
-    let high : length rec ≤ 4 + 4 * instructions = ltb-false (4 + 4 * instructions) (length rec) (c .1) in
-    omega (arith, length-drop 4 rec, instrs-length (drop 4 rec))
+    ltb-false (4 + 4 * instructions) (length rec) (c .1)
+
+job-most : (rec : List ℕ) → noJobLength (length rec) ≡ false → length (jobOf rec) ≤ instructions
+job-most rec h = omega (arith, record-most rec h, length-drop 4 rec, instrs-length (drop 4 rec))
 
 begin-below : (e : Engine) (w l : ℕ) (rec : List ℕ) → Below (2 ^ 32) (beginRows e w l rec)
 unfolding refusalPlace
@@ -196,8 +208,46 @@ worker-below e w ts k =
 one-below : (b : Bool) (r : Refusal) → refusalPlace r < 1 → Below 1 (refuseIf b r ∷ [])
 one-below b r h = row 1 b r [] h (λ _. end 1)
 
+-- the rows of the writer of a call's record: for a begin, those of its job record's form
+form-below : (rec : List ℕ) → Below 1 (formOrder rec)
+unfolding refusalPlace
+form-below rec =
+    row 1 (wrongLength rec) Length _ (omega arith) (λ _.
+    row 1 (kindField rec isnt jobKind) Kind _ (omega arith) (λ _.
+    one-below (noJobLength (length rec)) Length (omega arith)))
+
+record-below : (call : ℕ) (rec : List ℕ) (room : ℕ) → Below 1 (writeOrder call rec room)
+unfolding refusalPlace
+record-below call rec room =
+    row 1 (ltb lastCall call) CallRecord _ (omega arith) (λ _.
+    told-row 1 (pick (eqb call 0) (firstOf (formOrder rec)) Accepted) _ (form (eqb call 0))
+    (one-below (ltb room (recordLength call rec)) Buffer (omega arith)))
+  where
+    form : (b : Bool) (r : Refusal) → pick b (firstOf (formOrder rec)) Accepted ≡ Refused r → refusalPlace r < 1
+    form true r h = given-below 1 (formOrder rec) r (form-below rec) (first-exactly (formOrder rec) r .0 h)
+    form false r h = let z : _≡_ {A = ℕ} 0 1 = cc in absurd (omega arith)
+
+-- a writer that tells a refusal was refused so
+write-refused : (told : Told) (bytes : List ℕ) (r : Refusal) → writeOf told bytes ≡ WriteTold.Refused r → told ≡ Refused r
+write-refused Accepted bytes r h = let z : _≡_ {A = ℕ} 0 1 = cc in absurd (omega arith)
+write-refused (Refused q) bytes r h = cc
+
+-- the record of a call: at most 136 bytes
+call-size :
+    (call w l : ℕ) (rec : List ℕ) (room : ℕ) → writeTold call rec room ≡ Accepted →
+    length (callRecord (callWith call w l rec)) ≤ 8 + 4 * instructions
+unfolding callWith callRecord
+call-size zero w l rec room h =
+    let formed = first-all (formOrder rec) (written zero rec room h .form refl) in
+    let most = record-most rec (row-passes (noJobLength (length rec)) Length (formed 2)) in
+    omega (arith, record-size 0 w l (drop 4 rec), length-drop 4 rec, most)
+call-size (suc zero) w l rec room h = omega (arith, record-size 1 w 0 [])
+call-size (suc (suc zero)) w l rec room h = omega (arith, record-size 2 w 0 [])
+call-size (suc (suc (suc zero))) w l rec room h = omega (arith, record-size 3 w 0 [])
+call-size (suc (suc (suc (suc n)))) w l rec room h = absurd (omega (arith, written (suc (suc (suc (suc n)))) rec room h .most))
+
 pub fits : Fits
-unfolding showOf parkOf refusalPlace
+unfolding showOf parkOf recordedOf writeTold refusalPlace
 fits =
     record {
       begin =
@@ -226,6 +276,15 @@ fits =
           (row 1 (isFree e s) SheetFree _ (omega arith)
           (λ _. one-below (ltb room (4 + 4 * programLength e s)) Buffer (omega arith)))
           (exactly r .show e s room .0 h);
+      noRecord =
+          λ call w l rec room r h.
+          let order = writeOrder call rec room in
+          let refused = write-refused (writeTold call rec room) (callRecord (callWith call w l rec)) r h in
+          none order r (record-below call rec room) (first-exactly order r .0 refused);
       shown = λ e s room n h. omega (arith, wrote (showTold e s room) (sheetRecord e s) n h .1, show-size e s);
       parked = λ e room n h. omega (arith, wrote (parkTold e room) (stateRecord e) n h .1, park-size e);
+      recorded =
+          λ call w l rec room n h.
+          let told = wrote (writeTold call rec room) (callRecord (callWith call w l rec)) n h in
+          omega (arith, told .1, call-size call w l rec room (told .0));
     }

@@ -4,6 +4,7 @@ mod Names
 use Names.*
 use Rattle.parts.specs.Told.{refusalPlace}
 use Rattle.engine.specs.Calls.{setupOf, beginOf, stepOf, collectOf, dropOf, readWordOf, readLockOf, showOf, parkOf}
+use Rattle.calls.specs.Record.{recordedOf}
 
 pub record Fits : Type 0 where
   -- the calls that tell a place of a record, or a lock
@@ -18,6 +19,10 @@ pub record Fits : Type 0 where
   pub readWord : (e : Engine) (i : ℕ) (r : Refusal) → readWordOf e i ≡ WordTold.Refused r → refusalPlace r ≡ 0
   pub readLock : (e : Engine) (l : ℕ) (r : Refusal) → readLockOf e l ≡ LockTold.Refused r → refusalPlace r ≡ 0
   pub show : (e : Engine) (s room : ℕ) (r : Refusal) → showOf e s room ≡ WriteTold.Refused r → refusalPlace r ≡ 0
+  pub noRecord :
+      (call w l : ℕ) (rec : List ℕ) (room : ℕ) (r : Refusal) → recordedOf call w l rec room ≡ WriteTold.Refused r →
+      refusalPlace r ≡ 0
   -- how many bytes the writers wrote
   pub shown : (e : Engine) (s room n : ℕ) → showOf e s room ≡ WriteTold.Wrote n → n < 2 ^ 32
   pub parked : (e : Engine) (room n : ℕ) → parkOf e room ≡ WriteTold.Wrote n → n < 2 ^ 32
+  pub recorded : (call w l : ℕ) (rec : List ℕ) (room n : ℕ) → recordedOf call w l rec room ≡ WriteTold.Wrote n → n < 2 ^ 32
