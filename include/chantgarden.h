@@ -1,4 +1,5 @@
-/* The job engine, called from C: nine calls on a state that the caller lends as plain numbers. Link libchantgarden.a.
+/* The job engine, called from C: nine calls on a state that the caller lends as plain numbers, and the writer of a call's record.
+ * Link libchantgarden.a.
  *
  * Lending: a pointer is followed by how many numbers or bytes it points to; it is not NULL, and what two pointers of one call
  * point to does not overlap. No call keeps a pointer, allocates or blocks. Calls on one state are made one after the other, never
@@ -6,8 +7,8 @@
  * still read as some state, and never past the lent ones.
  *
  * Answers: number 0 says that the call was accepted. Any other number is a refusal of document 01, and place is its place there,
- * 0 where it tells none; but 22, which is the header's own, with place 0. Which of several is told is document 01's order, not that of
- * the lists below.
+ * 0 where it tells none; but 17, which is request 01's, and 22, the header's own, both with place 0. Which of several is told is
+ * document 01's order, not that of the lists below.
  * A refusal changes not one number of the state and not one byte of the buffer (setup: the state becomes the blank one, except
  * under 22). A field that has nothing to tell is 0, so all of them after number and place where a call is refused.
  *
@@ -19,8 +20,8 @@
  *    6 kind is not the one this call takes  14 sheet above 31 or free
  *    7 instruction badly formed, or the     15 a lock is held
  *      last is no halt                      16 word not below W
- *    8 a load, store or cam names a word    22 fewer numbers lent than CHANT_STATE_NUMBERS; every call gives it before any other
- *      this lock doesn't guard, or no word
+ *    8 a load, store or cam names a word    17 a record that makes no call: call above 3
+ *      this lock doesn't guard, or no word  22 fewer numbers lent than CHANT_STATE_NUMBERS; told before any other
  */
 #ifndef CHANTGARDEN_H
 #define CHANTGARDEN_H
@@ -38,9 +39,16 @@
 /* The numbers of a state. All 0 is the blank state: no locks, no words, idle workers, free sheets. */
 #define CHANT_STATE_NUMBERS 6724
 
-/* A buffer of so many bytes is long enough for every job record, for every setup record. */
+/* A buffer of so many bytes is long enough for every job record, for every setup record, for every call record. */
 #define CHANT_JOB_BYTES 132
 #define CHANT_SETUP_BYTES 390
+#define CHANT_CALL_BYTES 136
+
+/* The call that a call record makes. */
+#define CHANT_BEGIN 0
+#define CHANT_STEP 1
+#define CHANT_COLLECT 2
+#define CHANT_DROP 3
 
 /* What a collected answer says. */
 #define CHANT_RAN_YES 1
@@ -94,6 +102,14 @@ CHANT_READ chant_wrote chant_show(const uint32_t *state, size_t numbers, uint32_
 /* Writes the setup record of the present values and turns into the first bytes of the buffer; length tells how many. The bytes
  * after them don't change. Refused 12 at place 4 (blank state), 15 at the lowest held lock, 13. */
 CHANT_READ chant_wrote chant_park(const uint32_t *state, size_t numbers, uint8_t *buffer, size_t length);
+
+/* Writes the record (kind 3) of a call of chant_begin, chant_step, chant_collect or chant_drop into the first bytes of the buffer;
+ * length tells how many. The bytes after them don't change. Lock and job record are begin's: for the others they are not looked at.
+ * A worker or lock above 255 is written as 255; there is none of that number either. The record of an accepted setup and then those
+ * of the calls made since are a file that the program replay takes, up to 65,536 bytes: it makes them again and tells their answers.
+ * Refused 17, 5 and 6 (a begin whose record is no job record, which chant_begin refuses too), 13. */
+CHANT_READ chant_wrote chant_record(uint32_t call, uint32_t worker, uint32_t lock, const uint8_t *record, size_t length,
+                                    uint8_t *buffer, size_t room);
 
 #ifdef __cplusplus
 }
