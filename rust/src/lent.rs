@@ -1,9 +1,10 @@
-//! The archive's nine calls on numbers that the caller lends, one function
-//! each, with the answers as include/chantgarden.h has them: number 0 says
-//! accepted, and a field that has nothing to tell is 0. [`Engine`] is built
-//! on these. They are all safe, for any slices and numbers at all.
+//! The archive's nine calls on numbers that the caller lends, and its writer
+//! of a call's record, one function each, with the answers as
+//! include/chantgarden.h has them: number 0 says accepted, and a field that
+//! has nothing to tell is 0. [`Engine`] and [`Recorder`] are built on these.
+//! They are all safe, for any slices and numbers at all.
 //!
-//! All that is unsafe in this package stands here: nine calls of functions
+//! All that is unsafe in this package stands here: ten calls of functions
 //! that are declared by hand. That is sound, because
 //!
 //! - the declarations are the header's, name by name: a slice is a pointer
@@ -16,10 +17,17 @@
 //!   lent as `&` is only read.
 //!
 //! [`Engine`]: crate::Engine
+//! [`Recorder`]: crate::Recorder
 
 /// How many numbers a state has: the header's `CHANT_STATE_NUMBERS`. All 0
 /// is the blank state.
 pub const NUMBERS: usize = include!(concat!(env!("OUT_DIR"), "/numbers"));
+
+/// The header's `CHANT_BEGIN` and the other calls that have a record.
+pub const BEGIN: u32 = 0;
+pub const STEP: u32 = 1;
+pub const COLLECT: u32 = 2;
+pub const DROP: u32 = 3;
 
 /// The header's `chant_reply`.
 #[must_use]
@@ -86,6 +94,7 @@ extern "C" {
     fn chant_read_lock(state: *const u32, numbers: usize, lock: u32) -> Lock;
     fn chant_show(state: *const u32, numbers: usize, sheet: u32, buffer: *mut u8, length: usize) -> Wrote;
     fn chant_park(state: *const u32, numbers: usize, buffer: *mut u8, length: usize) -> Wrote;
+    fn chant_record(call: u32, worker: u32, lock: u32, record: *const u8, length: usize, buffer: *mut u8, room: usize) -> Wrote;
 }
 
 /// A fresh state from a setup record; a refused one gives the blank state.
@@ -155,4 +164,14 @@ pub fn park(state: &[u32], buffer: &mut [u8]) -> Wrote {
     let (numbers, length) = (state.len(), buffer.len());
     // SAFETY: two slices that don't overlap, as the module's text says.
     unsafe { chant_park(state.as_ptr(), numbers, buffer.as_mut_ptr(), length) }
+}
+
+/// Writes the record of a call of this number: [`BEGIN`], with its lock and
+/// its job record, or [`STEP`], [`COLLECT`], [`DROP`].
+#[inline]
+pub fn record(call: u32, worker: u32, lock: u32, record: &[u8], buffer: &mut [u8]) -> Wrote {
+    let (length, room) = (record.len(), buffer.len());
+    let (record, buffer) = (record.as_ptr(), buffer.as_mut_ptr());
+    // SAFETY: two slices that don't overlap, as the module's text says.
+    unsafe { chant_record(call, worker, lock, record, length, buffer, room) }
 }

@@ -16,7 +16,9 @@
 //! # Ok::<(), Refusal>(())
 //! ```
 //!
-//! No answer is dropped unread without a warning of the compiler:
+//! A [`Recorder`] makes the same calls and hands out a record of each, from
+//! which they can be made again. No answer is dropped unread without a
+//! warning of the compiler:
 //!
 //! ```compile_fail
 //! #![deny(unused_must_use)]
@@ -27,9 +29,11 @@
 
 #[allow(unsafe_code, missing_docs)]
 pub mod lent;
+mod record;
 #[cfg(test)]
 mod tests;
 
+pub use record::Recorder;
 use std::error::Error;
 use std::fmt;
 
@@ -43,7 +47,7 @@ pub struct Refusal {
 }
 
 impl Refusal {
-    /// When the refusal is given, in document 01's words.
+    /// When the refusal is given, in the documents' words.
     pub fn words(self) -> &'static str {
         match self.number {
             1 => "worker above 7",
@@ -62,6 +66,7 @@ impl Refusal {
             14 => "sheet above 31 or free",
             15 => "a lock is held",
             16 => "word not below W",
+            17 => "a record that makes no call",
             22 => "fewer numbers lent than a state has",
             _ => "a refusal that this text doesn't know",
         }
@@ -144,6 +149,8 @@ impl Engine {
     pub const JOB_BYTES: usize = 132;
     /// The most bytes of a setup record.
     pub const SETUP_BYTES: usize = 390;
+    /// The most bytes of a call record.
+    pub const CALL_BYTES: usize = 136;
 
     /// The blank state: no locks, no words, idle workers, free sheets.
     pub fn blank() -> Engine {

@@ -1,8 +1,9 @@
 //! The starred rows of document 01's example table, every refusal that calls
-//! can reach, and the lent calls with too few numbers.
+//! can reach, the lent calls with too few numbers, and the records of calls.
 
 use crate::lent::{self, NUMBERS};
-use crate::{Answer, Collected, Engine, Holder, LockWord, Refusal, Word};
+use crate::{Answer, Collected, Engine, Holder, LockWord, Recorder, Refusal, Word};
+use std::cell::RefCell;
 
 /// Setup S: two locks, words 5 and 9 under lock 0, word 7 under lock 1.
 const S: [u8; 29] = [
@@ -269,5 +270,142 @@ fn words_of_refusals() {
     assert_eq!(told, said);
     let words = |number| Refusal { number, place: 0 }.words();
     assert_eq!(words(11), "worker idle");
+    assert_eq!(words(17), "a record that makes no call");
     assert_eq!(words(99), "a refusal that this text doesn't know");
+}
+
+/// The record of a call, byte by byte; the program is that of a begin.
+fn record(call: u8, worker: u8, lock: u8, program: &[u8]) -> Vec<u8> {
+    let length = 8 + program.len() as u8;
+    [&[length, 0, 3, 0, call, worker, lock, 0], program].concat()
+}
+
+/// What the writer makes of a call in a buffer of so many bytes, which all
+/// are A5 before; the whole buffer after it.
+fn written(call: u32, numbers: [u32; 2], job: &[u8], room: usize) -> (lent::Wrote, Vec<u8>) {
+    let mut buffer = vec![0xA5; room];
+    let [worker, lock] = numbers;
+    let told = lent::record(call, worker, lock, job, &mut buffer);
+    (told, buffer)
+}
+
+/// The writer is accepted, in a buffer of just its size and in one with
+/// bytes to spare, which stay.
+fn writes(call: u32, numbers: [u32; 2], job: &[u8], record: &[u8]) {
+    for spare in [0, 1, 50] {
+        let (told, buffer) = written(call, numbers, job, record.len() + spare);
+        assert_eq!((told.number, told.place), (0, 0));
+        assert_eq!(told.length as usize, record.len());
+        assert_eq!(buffer[..record.len()], *record);
+        assert!(buffer[record.len()..].iter().all(|&byte| byte == 0xA5));
+    }
+}
+
+/// The writer is refused so, at place 0, and alters no byte.
+fn writes_none(call: u32, job: &[u8], room: usize, number: u32) {
+    let (told, buffer) = written(call, [0, 0], job, room);
+    assert_eq!((told.number, told.place, told.length), (number, 0, 0));
+    assert!(buffer.iter().all(|&byte| byte == 0xA5));
+}
+
+/// A job record of so many instructions, all of which halt.
+fn halts(instructions: usize) -> Vec<u8> {
+    let length = 4 + 4 * instructions as u8;
+    let mut job = vec![0; length.into()];
+    (job[0], job[2]) = (length, 1);
+    job
+}
+
+#[test]
+fn records_of_calls() {
+    writes(lent::BEGIN, [3, 1], &A, &record(0, 3, 1, &A[4..]));
+    // A step, collect or drop has no lock and no job.
+    for (lock, job) in [(0, &[][..]), (9, &A), (u32::MAX, &S)] {
+        writes(lent::STEP, [3, lock], job, &record(1, 3, 0, &[]));
+        writes(lent::COLLECT, [7, lock], job, &record(2, 7, 0, &[]));
+        writes(lent::DROP, [0, lock], job, &record(3, 0, 0, &[]));
+    }
+    // What doesn't fit its byte is written as 255.
+    for far in [255, 256, 263, 65_536, u32::MAX] {
+        writes(lent::BEGIN, [far, 1], &A, &record(0, 255, 1, &A[4..]));
+        writes(lent::BEGIN, [1, far], &A, &record(0, 1, 255, &A[4..]));
+        writes(lent::STEP, [far, 0], &[], &record(1, 255, 0, &[]));
+    }
+    let most = halts(32);
+    assert_eq!(record(0, 0, 0, &most[4..]).len(), Engine::CALL_BYTES);
+    writes(lent::BEGIN, [0, 0], &most, &record(0, 0, 0, &most[4..]));
+}
+
+#[test]
+fn refusals_of_records_of_calls() {
+    for call in [4, 255, 256, u32::MAX] {
+        writes_none(call, &A, Engine::CALL_BYTES, 17);
+        writes_none(call, &A[..23], 0, 17);
+    }
+    for room in [0, Engine::CALL_BYTES] {
+        for job in [&[][..], &A[..23], &halts(0), &halts(33), &[5, 0, 1, 0, 0]] {
+            writes_none(lent::BEGIN, job, room, 5);
+        }
+        writes_none(lent::BEGIN, &S, room, 6);
+    }
+    writes_none(lent::BEGIN, &A, 27, 13);
+    writes_none(lent::BEGIN, &halts(32), Engine::CALL_BYTES - 1, 13);
+    for call in [lent::STEP, lent::COLLECT, lent::DROP] {
+        writes_none(call, &A, 7, 13);
+        writes_none(call, &[], 0, 13);
+    }
+}
+
+/// Each call tells what the engine's own tells, and its record, where it has
+/// one, is handed out before.
+#[test]
+fn calls_that_are_recorded() {
+    let handed = RefCell::new(Vec::new());
+    let (mut engine, mut plain) = (Engine::blank(), Engine::blank());
+    let mut recorder = Recorder::new(&mut engine, |record| {
+        handed.borrow_mut().push(record.to_vec());
+    });
+    let next = || std::mem::take(&mut *handed.borrow_mut());
+    assert_eq!(recorder.setup(&S), plain.setup(&S));
+    assert_eq!(next(), [S.to_vec()]);
+    let begun = record(0, 0, 0, &A[4..]);
+    for _ in 0..2 {
+        // The second one is refused: the worker is under way.
+        assert_eq!(recorder.begin(0, 0, &A), plain.begin(0, 0, &A));
+        assert_eq!(next(), [&begun[..]]);
+    }
+    for _ in 0..15 {
+        assert_eq!(recorder.step(0), plain.step(0));
+        assert_eq!(next(), [record(1, 0, 0, &[])]);
+    }
+    for worker in [0, 0, 300] {
+        let byte = worker.min(255) as u8;
+        assert_eq!(recorder.collect(worker), plain.collect(worker));
+        assert_eq!(next(), [record(2, byte, 0, &[])]);
+        assert_eq!(recorder.drop_worker(worker), plain.drop_worker(worker));
+        assert_eq!(next(), [record(3, byte, 0, &[])]);
+    }
+    assert_eq!(recorder.engine().read_word(0), word(6, 1));
+    assert_eq!(engine.numbers, plain.numbers);
+}
+
+/// What leaves no record: bytes that are no job record, a refused setup, and
+/// the calls on the blank state.
+#[test]
+fn calls_without_a_record() {
+    let handed = RefCell::new(Vec::new());
+    let mut engine = engine();
+    let mut recorder = Recorder::new(&mut engine, |record| {
+        handed.borrow_mut().extend_from_slice(record);
+    });
+    assert_eq!(recorder.begin(0, 0, &A[..23]), refused(5, 0));
+    assert_eq!(recorder.begin(0, 0, &S), refused(6, 0));
+    assert_eq!(recorder.begin(8, 0, &S), refused(1, 0));
+    assert_eq!(recorder.setup(&A), refused(6, 0));
+    assert_eq!(recorder.begin(0, 0, &A), refused(2, 0));
+    assert_eq!(recorder.step(0), refused(11, 0));
+    assert_eq!(*handed.borrow(), []);
+    assert_eq!(recorder.setup(&S), Ok(()));
+    assert_eq!(recorder.step(0), refused(11, 0));
+    assert_eq!(*handed.borrow(), [&S[..], &record(1, 0, 0, &[])].concat());
 }
