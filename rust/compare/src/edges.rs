@@ -5,7 +5,7 @@ use crate::pair::{Difference, Pair};
 use second::script::Call;
 
 /// One lock, one word.
-const SETUP: [u8; 15] = [15, 0, 2, 0, 1, 1, 0, 5, 0, 0, 0, 0, 0, 0, 0];
+pub const SETUP: [u8; 15] = [15, 0, 2, 0, 1, 1, 0, 5, 0, 0, 0, 0, 0, 0, 0];
 /// Lengths around those that the length field can say, and that it says
 /// wrapped around.
 const LENGTHS: [usize; 9] = [0, 3, 4, 65_534, 65_535, 65_536, 65_540, 65_544, 65_551];

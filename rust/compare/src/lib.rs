@@ -1,9 +1,11 @@
 //! Holds engines against each other in one process, on random calls: the
 //! second program's, the archive's, and a third one where it is given. Every
-//! answer, refusal, place, word, lock and buffer is equal.
+//! answer, refusal, place, word, lock and buffer is equal, and so is every
+//! call's record, as the second program and the archive write it.
 
 mod edges;
 mod pair;
+mod records;
 mod told;
 
 pub use pair::{Difference, Pair};
@@ -85,6 +87,11 @@ mod tests {
         // Every refusal but 10, which is out of reach, and accepted calls.
         for number in (0..=16).filter(|&number| number != 10) {
             assert!(pair.told[number] >= 10, "{number}: {:?}", pair.told);
+        }
+        let records = &pair.records;
+        assert!(records.count() >= 25_000);
+        for number in [0, 5, 6, 13, 17] {
+            assert!(records.told[number] >= 10, "{:?}", records.told);
         }
     }
 

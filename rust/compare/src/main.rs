@@ -1,6 +1,6 @@
 //! Holds the second program against the engine's archive in one process:
-//! N random calls from SEED on, every answer, refusal, place, word, lock and
-//! buffer equal. The same SEED makes the same calls.
+//! N random calls from SEED on, every answer, refusal, place, word, lock,
+//! buffer and call record equal. The same SEED makes the same calls.
 
 use std::process::ExitCode;
 use std::time::Instant;

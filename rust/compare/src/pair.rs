@@ -1,6 +1,7 @@
 //! The second program's engine and the archive's, side by side, and a third
 //! one beside them where one is given.
 
+use crate::records::Records;
 use crate::told::{Archive, Calls, Second, Told};
 use chantgarden::lent::NUMBERS;
 use second::engine::Engine;
@@ -53,6 +54,7 @@ pub struct Pair {
     /// What it was before a call that may not change it.
     before: Vec<u32>,
     third: Option<Box<dyn Calls>>,
+    pub records: Records,
     pub calls: u64,
     /// Readings between the calls.
     pub readings: u64,
@@ -70,6 +72,7 @@ impl Pair {
             before: lent.clone(),
             archive: Archive(lent),
             third,
+            records: Records::new(),
             calls: 0,
             readings: 0,
             told: [0; 32],
@@ -81,10 +84,12 @@ impl Pair {
         &self.second.0
     }
 
-    /// One call on all; tells whether it was accepted. A step is one step.
+    /// One call on all, and its record; tells whether it was accepted. A
+    /// step is one step.
     pub fn compare(&mut self, call: &Call) -> Result<bool, Difference> {
         self.calls += 1;
         let number = self.compare_one(call)?;
+        self.compare_record(call)?;
         self.told[number as usize % 32] += 1;
         let after = |read: Difference| read.after(call);
         if self.calls.is_multiple_of(WORDS_AFTER) {
@@ -120,6 +125,13 @@ impl Pair {
         }
         self.equal(call, fill, second, archive)?;
         Ok(number)
+    }
+
+    fn compare_record(&mut self, call: &Call) -> Result<(), Difference> {
+        match self.records.compare(call, self.calls as u8) {
+            Ok(()) => Ok(()),
+            Err((call, second, archive)) => self.difference(call, second, archive, None),
+        }
     }
 
     /// All words and locks, and one more of each.
@@ -190,10 +202,10 @@ impl Pair {
 
     /// How many calls there were, and how many of them were refused.
     pub fn counts(&self) -> String {
-        let (calls, readings) = (self.calls, self.readings);
+        let (calls, readings, records) = (self.calls, self.readings, self.records.count());
         let kinds = self.told[1..].iter().filter(|&&times| times > 0).count();
         let refused = calls - self.told[0];
-        format!("{calls} calls, {refused} of them refused with {kinds} numbers, and {readings} readings between them")
+        format!("{calls} calls, {refused} of them refused with {kinds} numbers, {records} records of them, and {readings} readings between them")
     }
 
     /// Makes one step on the archive's engine alone, of the first worker

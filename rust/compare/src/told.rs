@@ -148,7 +148,7 @@ fn replied(result: Result<(), Refusal>) -> Reply {
     Reply { number, place }
 }
 
-fn wrote(result: Result<usize, Refusal>) -> Wrote {
+pub fn wrote(result: Result<usize, Refusal>) -> Wrote {
     let (number, place, length) = parts(result);
     let length = length.unwrap_or(0) as u32;
     Wrote {
@@ -204,7 +204,7 @@ impl Told {
 
 /// Lends a buffer of this size; gives the answer, and the buffer with what
 /// lies around it.
-fn in_buffer(fill: u8, size: usize, call: impl FnOnce(&mut [u8]) -> Wrote) -> Told {
+pub fn in_buffer(fill: u8, size: usize, call: impl FnOnce(&mut [u8]) -> Wrote) -> Told {
     let mut whole = vec![fill; AROUND + size + AROUND];
     let answer = call(&mut whole[AROUND..AROUND + size]);
     Told::Wrote(answer, whole)
