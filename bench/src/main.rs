@@ -20,7 +20,7 @@ use sides::{ByValue, InPlace, Lent, Side};
 use std::process::ExitCode;
 
 /// The calls of include/chantgarden.h.
-const CALLS: [&str; 9] = [
+const CALLS: [&str; 10] = [
     "chant_setup",
     "chant_begin",
     "chant_step",
@@ -30,6 +30,7 @@ const CALLS: [&str; 9] = [
     "chant_read_lock",
     "chant_show",
     "chant_park",
+    "chant_record",
 ];
 /// Tries in one timed round, of all workers of all its engines.
 const TRIES: usize = 16;
