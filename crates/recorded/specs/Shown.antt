@@ -1,14 +1,9 @@
 -- Request 01's example, and a file that meets the premises of what is promised of files.
-use Prim.Native.Nat.{ℕ}
-use mathlib.Core.Path.{_≡_}
-use mathlib.Core.List.{List, [], _∷_, _++_}
-use lib.ListN.{replicate}
+mod Names
+use Names.*
 use Rattle.past.specs.Past.{Call, Begin, Step, Collect, steps}
-use Rattle.parts.specs.declared.Told.the-variants.{Refused}
 use Rattle.calls.specs.Record.{recordTold}
 use Rattle.files.specs.File.{refusedLine, acceptedLine, linesText, printedOf}
-use Rattle.files.specs.declared.make.Line.{Line}
-use Rattle.parts.specs.declared.Refusal.the-variants.{NoWorker, WorkerIdle, Length, Kind, CallRecord}
 use Rattle.tables.specs.Table.{setupS, jobA, fresh}
 use Rattle.recorded.specs.Recorded.{linesAlong, IsFile}
 
