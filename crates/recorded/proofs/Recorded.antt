@@ -17,7 +17,7 @@ use Rattle.parts.specs.declared.Told.the-variants.{Refused}
 use Rattle.engine.specs.declared.Engine.{Engine}
 use Rattle.recorded.specs.Recorded.{recordsOf, fileOf, linesAlong, OneEncoding, NothingLost, IsFile, Replays}
 use Rattle.recorded.proofs.Encoding.{read-back, whole-call}
-use Rattle.recorded.proofs.Same.{told-same, left-same, unwritten-refused}
+use Rattle.recorded.proofs.Same.{told-same, left-same, refused-kept, unwritten-refused}
 use Rattle.recorded.proofs.Replay.{lines-both, records-both, walked, printed, left-state, walk-none, bytes-before, splits}
 
 pub one-encoding : OneEncoding
@@ -28,7 +28,7 @@ one-encoding = record {
 }
 
 pub nothing-lost : NothingLost
-nothing-lost = record { told = told-same; left = left-same; unwritten = unwritten-refused }
+nothing-lost = record { told = told-same; left = left-same; kept = refused-kept; unwritten = unwritten-refused }
 
 module _ (setup : List ℕ) (cs : List Call) where
   abbrev told : List Line

@@ -5,6 +5,7 @@ use mathlib.Core.Bool.{Bool, true, false}
 use mathlib.Core.List.{List, [], _∷_}
 use native.Mathlib.Omega.{arith}
 use lib.Dec.{leb}
+use lib.ListN.{length}
 use borrow.Author.Tests.{le-leb, leb-true, leb-false}
 use Rattle.arrays.specs.Fresh.{guardsOf}
 use Rattle.parts.specs.Numbers.{workers, mostLocks}
@@ -16,14 +17,15 @@ use Rattle.parts.specs.declared.Told.the-variants.{Accepted, Refused}
 use Rattle.records.specs.Job.{formOrder, jobTold}
 use Rattle.records.proofs.Form.{job-stop}
 use Rattle.steps.specs.Worker.{beginByState}
-use Rattle.engine.specs.Calls.{outcomeOf, roomOrder, beginTold, takenOf, beginOf, stepOf, collectOf, dropOf}
+use Rattle.engine.specs.Calls.{writeOf, bufferOf, outcomeOf, roomOrder, beginTold, takenOf, beginOf, stepOf, collectOf, dropOf}
 use Rattle.engine.specs.State.{lockCount, wordsOf, workerAt}
 use Rattle.engine.specs.declared.CollectTold.{CollectTold}
 use Rattle.engine.specs.declared.Collected.{Collected}
 use Rattle.engine.specs.declared.Engine.{Engine}
 use Rattle.engine.specs.declared.Outcome.{Outcome}
+use Rattle.engine.specs.declared.WriteTold.{WriteTold}
 use Rattle.past.specs.Past.{Call, Begin, Step, Collect, Drop, ReadWord, ReadLock, Show, Park, after}
-use Rattle.calls.specs.Record.{cappedOf}
+use Rattle.calls.specs.Record.{cappedOf, callWith, callRecord, writeTold, recordedOf, recordedIn}
 use Rattle.files.specs.File.{toldLine, collectLine, callLine}
 use Rattle.recorded.specs.Recorded.{isWritten, inBytes}
 
@@ -133,6 +135,19 @@ left-same e (ReadWord i) = refl
 left-same e (ReadLock l) = refl
 left-same e (Show s room) = refl
 left-same e (Park room) = refl
+
+-- a writer that is refused
+pub refused-kept :
+    (call w l : ℕ) (rec buf : List ℕ) (r : Refusal) → recordedOf call w l rec (length buf) ≡ WriteTold.Refused r →
+    recordedIn call w l rec buf ≡ buf
+unfolding recordedOf recordedIn
+refused-kept call w l rec buf r h = go (writeTold call rec (length buf)) h
+  where
+    go :
+        (t : Told) → writeOf t (callRecord (callWith call w l rec)) ≡ WriteTold.Refused r →
+        bufferOf t (callRecord (callWith call w l rec)) buf ≡ buf
+    go Accepted h = let z : _≡_ {A = ℕ} 0 1 = cc in absurd (omega arith)
+    go (Refused s) h = refl
 
 -- a begin that has no record
 pub unwritten-refused :

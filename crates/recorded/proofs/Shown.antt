@@ -30,6 +30,9 @@ pub shown : Shown
 unfolding wordsFrom asksOf followsOf wordOf lay parts.grabOf parts.releaseOf parts.swapOf committedOf holdsOf registerOf withRegister wornOf answerNumber refusalNumber refusalPlace u32sOf badlyFormed codeTold instrTold instrsOf jobTold straysAt guardsTold setupTold turnsTold anyOf inUseOf lowestOf helpedOf spotOf try.answerOf try.commitStep try.effectOf try.followStep try.grabStep try.lookAgainStep try.lookStep try.markStep try.readMarkStep try.readStep try.releaseStep try.swapStep worker.beganOf worker.beginByState worker.collectByState worker.collectedOf worker.dropByState worker.droppedOf worker.stepByState beginOf beginTold begunOf collectOf dropOf freshOf readLockOf readWordOf setupOf stepOf blankOf placesOf putAt viewAt after afterAll setupS jobA fresh AllRecords badHead recordTold callWith jobIn recordWith callRecord decimalFrom numberText pairText callLine walkFrom linesText numberLine setupText printedOf isWritten recordsOf linesAlong sampleCalls
 shown = record {
   request = refl;
+  cutSetup = refl;
+  otherKind = refl;
+  noLocks = refl;
   file = record { accepted = refl; bytes = (job-bytes, (λ k. omega arith, tt)); most = omega arith };
   lines = refl;
   text = refl;

@@ -25,6 +25,10 @@ pub record Shown : Type 0 where
   pub request :
       printedOf (setupS ++ (0x08 ∷ 0x00 ∷ 0x03 ∷ 0x00 ∷ 0x02 ∷ 0x00 ∷ 0x00 ∷ 0x00 ∷ [])) ≡
       48 ∷ 32 ∷ 49 ∷ 49 ∷ 32 ∷ 48 ∷ 32 ∷ 48 ∷ 10 ∷ []
+  -- a setup that is cut short, one of another kind, and one without locks: `5`, `6`, `12`, alone on a line
+  pub cutSetup : printedOf (take 28 setupS) ≡ 53 ∷ 10 ∷ []
+  pub otherKind : printedOf (0x1D ∷ 0x00 ∷ 0x01 ∷ drop 3 setupS) ≡ 54 ∷ 10 ∷ []
+  pub noLocks : printedOf (0x1D ∷ 0x00 ∷ 0x02 ∷ 0x00 ∷ 0x00 ∷ drop 5 setupS) ≡ 49 ∷ 50 ∷ 10 ∷ []
   pub file : IsFile setupS sampleCalls
   pub lines : linesAlong fresh sampleCalls ≡ sampleLines
   -- `16 0 1 14`: the line of its second collect

@@ -7,4 +7,5 @@ pub use lib.ListN.{length, take}
 pub use Rattle.parts.specs.declared.Refusal.{Refusal}
 pub use Rattle.parts.specs.declared.Told.the-variants.{Accepted, Refused}
 pub use Rattle.engine.specs.declared.Engine.{Engine}
+pub use Rattle.engine.specs.declared.WriteTold.{WriteTold}
 pub use Rattle.files.specs.declared.make.Line.{Line}

@@ -2,7 +2,7 @@
 pub use Prim.Native.Nat.{ℕ}
 pub use mathlib.Core.Path.{_≡_}
 pub use mathlib.Core.List.{List, [], _∷_, _++_}
-pub use lib.ListN.{replicate}
+pub use lib.ListN.{replicate, take, drop}
 pub use Rattle.parts.specs.declared.Told.the-variants.{Refused}
 pub use Rattle.files.specs.declared.make.Line.{Line}
 pub use Rattle.parts.specs.declared.Refusal.the-variants.{NoWorker, WorkerIdle, Length, Kind, CallRecord}
