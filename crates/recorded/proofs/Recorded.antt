@@ -15,9 +15,9 @@ use Rattle.files.proofs.Walks.{walk-refused}
 use Rattle.parts.specs.declared.Refusal.{Refusal}
 use Rattle.parts.specs.declared.Told.the-variants.{Refused}
 use Rattle.engine.specs.declared.Engine.{Engine}
-use Rattle.recorded.specs.Recorded.{recordsOf, fileOf, linesAlong, OneEncoding, NothingLost, IsFile, Replays}
+use Rattle.recorded.specs.Recorded.{recordsOf, fileOf, linesAlong, OneEncoding, RecordWriter, NothingLost, IsFile, Replays}
 use Rattle.recorded.proofs.Encoding.{read-back, whole-call}
-use Rattle.recorded.proofs.Same.{told-same, left-same, refused-kept, unwritten-refused}
+use Rattle.recorded.proofs.Same.{told-same, left-same, refused-kept, wrote-front, unwritten-refused}
 use Rattle.recorded.proofs.Replay.{lines-both, records-both, walked, printed, left-state, walk-none, bytes-before, splits}
 
 pub one-encoding : OneEncoding
@@ -27,8 +27,11 @@ one-encoding = record {
   one = λ s t a b h k e. whole-call s a h .1 ∙ ap callRecord e ∙ sym (whole-call t b k .1);
 }
 
+pub record-writer : RecordWriter
+record-writer = record { kept = refused-kept; wrote = wrote-front }
+
 pub nothing-lost : NothingLost
-nothing-lost = record { told = told-same; left = left-same; kept = refused-kept; unwritten = unwritten-refused }
+nothing-lost = record { told = told-same; left = left-same; unwritten = unwritten-refused }
 
 module _ (setup : List ℕ) (cs : List Call) where
   abbrev told : List Line

@@ -1,12 +1,13 @@
--- A worker or lock above 255 is none, and neither is 255: the call gets the same answer. A begin that has no record is refused.
-use Prim.Native.Nat.{ℕ, _%_, _≤_, _<_, min}
+-- A worker or lock above 255 is none, and neither is 255: the call gets the same answer. What the writer does to a buffer. A begin that
+-- has no record is refused.
+use Prim.Native.Nat.{ℕ, _+_, _-_, _%_, _≤_, _<_, min}
 use mathlib.Core.Path.{_≡_, refl, _∙_, sym, ap}
 use mathlib.Core.Bool.{Bool, true, false}
-use mathlib.Core.List.{List, [], _∷_}
+use mathlib.Core.List.{List, [], _∷_, _++_}
 use native.Mathlib.Omega.{arith}
-use lib.Dec.{leb}
-use lib.ListN.{length}
-use borrow.Author.Tests.{le-leb, leb-true, leb-false}
+use lib.Dec.{eqb, leb}
+use lib.ListN.{length, take, drop}
+use borrow.Author.Tests.{le-leb, leb-true, leb-false, eqb-true, eqb-false}
 use Rattle.arrays.specs.Fresh.{guardsOf}
 use Rattle.parts.specs.Numbers.{workers, mostLocks}
 use Rattle.parts.specs.Told.{onTold, _then_, refuseIf, firstOf}
@@ -26,6 +27,8 @@ use Rattle.engine.specs.declared.Outcome.{Outcome}
 use Rattle.engine.specs.declared.WriteTold.{WriteTold}
 use Rattle.past.specs.Past.{Call, Begin, Step, Collect, Drop, ReadWord, ReadLock, Show, Park, after}
 use Rattle.calls.specs.Record.{cappedOf, callWith, callRecord, writeTold, recordedOf, recordedIn}
+use Rattle.calls.proofs.Laws.{record-size, begin-room, other-room, begin-count, other-count}
+use Rattle.parts.proofs.Lay.{lay-is}
 use Rattle.files.specs.File.{toldLine, collectLine, callLine}
 use Rattle.recorded.specs.Recorded.{isWritten, inBytes}
 
@@ -148,6 +151,42 @@ refused-kept call w l rec buf r h = go (writeTold call rec (length buf)) h
         bufferOf t (callRecord (callWith call w l rec)) buf ≡ buf
     go Accepted h = let z : _≡_ {A = ℕ} 0 1 = cc in absurd (omega arith)
     go (Refused s) h = refl
+
+-- one that is accepted: the buffer has room for the record
+record-fits :
+    (call w l : ℕ) (rec : List ℕ) (room : ℕ) → writeTold call rec room ≡ Accepted →
+    length (callRecord (callWith call w l rec)) ≤ room
+record-fits call w l rec room h = go (eqb call 0) refl
+  where
+    go : (q : Bool) → eqb call 0 ≡ q → length (callRecord (callWith call w l rec)) ≤ room
+    go true e =
+        let z = eqb-true call 0 e in
+        let n = begin-count call w l _ rec z refl in
+        omega (arith, n, record-size 0 w l (take (length rec - 4) (drop 4 rec)), begin-room call rec room h z)
+    go false e =
+        let k = eqb-false call 0 e in
+        let n = other-count call w l room rec k h _ refl in
+        omega (arith, n, record-size call w 0 [], other-room call rec room h k)
+
+pub wrote-front :
+    (call w l : ℕ) (rec buf : List ℕ) (n : ℕ) → recordedOf call w l rec (length buf) ≡ WriteTold.Wrote n →
+    (n ≡ length (callRecord (callWith call w l rec))) ×
+    (recordedIn call w l rec buf ≡ callRecord (callWith call w l rec) ++ drop n buf)
+unfolding recordedOf recordedIn
+wrote-front call w l rec buf n h = go (writeTold call rec (length buf)) refl h
+  where
+    go :
+        (t : Told) → writeTold call rec (length buf) ≡ t → writeOf t (callRecord (callWith call w l rec)) ≡ WriteTold.Wrote n →
+        (n ≡ length (callRecord (callWith call w l rec))) ×
+        (bufferOf t (callRecord (callWith call w l rec)) buf ≡ callRecord (callWith call w l rec) ++ drop n buf)
+    go Accepted e k =
+        let m : n ≡ length (callRecord (callWith call w l rec)) = cc in
+        let z : 0 + length (callRecord (callWith call w l rec)) ≡ n = omega arith in (
+          m,
+          lay-is 0 (callRecord (callWith call w l rec)) buf (omega (arith, record-fits call w l rec (length buf) e)) ∙
+              ap (λ (j : ℕ). callRecord (callWith call w l rec) ++ drop j buf) z,
+        )
+    go (Refused s) e k = let z : _≡_ {A = ℕ} 0 1 = cc in absurd (omega arith)
 
 -- a begin that has no record
 pub unwritten-refused :

@@ -7,7 +7,7 @@ use Rattle.records.specs.Bytes.{AllBytes, lengthField}
 use Rattle.records.specs.Job.{formOrder}
 use Rattle.engine.specs.Calls.{setupOf, beginOf}
 use Rattle.past.specs.Past.{Call, Begin, Step, Collect, Drop, ReadWord, ReadLock, Show, Park, after, afterAll, AllRecords}
-use Rattle.calls.specs.Record.{recordTold, callIn, cappedOf, callRecord, recordedOf, recordedIn}
+use Rattle.calls.specs.Record.{recordTold, callIn, cappedOf, callWith, callRecord, recordedOf, recordedIn}
 use Rattle.files.specs.File.{callLine, walkFrom, walkedFrom, lineText, linesText, mostFile, printedOf, replayedState}
 
 -- Which calls have a record: a begin whose bytes are a job record by 5 and 6, a step, a collect, a drop.
@@ -62,15 +62,23 @@ pub record OneEncoding : Type 0 where
       (s t : List ℕ) → AllBytes s → AllBytes t → recordTold s ≡ Accepted → recordTold t ≡ Accepted → callIn s ≡ callIn t →
       take (lengthField s) s ≡ take (lengthField t) t
 
+-- What the writer of records does to a lent buffer.
+pub record RecordWriter : Type 0 where
+  -- where it is refused, it alters not one byte of the buffer
+  pub kept :
+      (call w l : ℕ) (rec buf : List ℕ) (r : Refusal) → recordedOf call w l rec (length buf) ≡ WriteTold.Refused r →
+      recordedIn call w l rec buf ≡ buf
+  -- where not, it tells how long the record is; that is at the front, and the bytes after it are as they were
+  pub wrote :
+      (call w l : ℕ) (rec buf : List ℕ) (n : ℕ) → recordedOf call w l rec (length buf) ≡ WriteTold.Wrote n →
+      (n ≡ length (callRecord (callWith call w l rec))) ×
+      (recordedIn call w l rec buf ≡ callRecord (callWith call w l rec) ++ drop n buf)
+
 -- What a record does not have changes nothing.
 pub record NothingLost : Type 0 where
   -- a call with 255 in place of a greater number tells the same, and leaves the same state
   pub told : (e : Engine) (c : Call) → callLine e (inBytes c) ≡ callLine e c
   pub left : (e : Engine) (c : Call) → after e (inBytes c) ≡ after e c
-  -- a writer that is refused alters not one byte of the buffer
-  pub kept :
-      (call w l : ℕ) (rec buf : List ℕ) (r : Refusal) → recordedOf call w l rec (length buf) ≡ WriteTold.Refused r →
-      recordedIn call w l rec buf ≡ buf
   -- a begin that has no record is refused and changes nothing
   pub unwritten :
       (e : Engine) (w l : ℕ) (rec : List ℕ) → isWritten (Begin w l rec) ≡ false →
