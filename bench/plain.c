@@ -32,6 +32,7 @@ struct worker {
   uint32_t uses;          /* bits: the own sheet and the helped one; none where no try is under way */
   uint32_t next, entry;   /* where the run is, among all instructions and all log entries */
   uint8_t lock, own;
+  uint8_t filled;         /* log entries since begin: no more than a job has instructions */
   struct lock seen;       /* what Look or Look again remembers */
   struct lock won;        /* the sheet that is run, and the turn under which it won */
   struct word read;       /* what was read, and from the commit on what the entry holds */
@@ -151,6 +152,7 @@ chant_reply plain_begin(struct plain *e, uint32_t worker, uint32_t lock, const u
   take_sheet(e, own, record + 4, n);
   w->now.op = LOOK;
   w->steps = 0;
+  w->filled = 0;
   w->uses = 1u << own;
   w->lock = (uint8_t)lock;
   w->own = (uint8_t)own;
@@ -261,8 +263,12 @@ static chant_reply cam(struct plain *e, struct worker *w) { return read(e, w, w-
 
 static void commit(struct plain *e, struct worker *w) {
   struct word *entry = &e->entries[w->entry++];
-  if (entry->count == EMPTY) *entry = w->read;
-  else w->read = *entry;
+  if (entry->count == EMPTY) {
+    *entry = w->read;
+    w->filled++;
+  } else {
+    w->read = *entry;
+  }
 }
 
 static chant_reply commit_load(struct plain *e, struct worker *w) {
@@ -327,11 +333,11 @@ chant_reply plain_step(struct plain *e, uint32_t worker) {
 }
 
 chant_collected plain_collect(struct plain *e, uint32_t worker) {
-  if (worker >= WORKERS) return (chant_collected){1, 0, 0, 0};
+  if (worker >= WORKERS) return (chant_collected){1, 0, 0, 0, 0};
   struct worker *w = &e->workers[worker];
-  if (w->now.op != FINISHED) return (chant_collected){w->now.op == IDLE ? 11 : 3, 0, 0, 0};
+  if (w->now.op != FINISHED) return (chant_collected){w->now.op == IDLE ? 11 : 3, 0, 0, 0, 0};
   w->now.op = IDLE;
-  return (chant_collected){0, 0, w->now.a, w->steps};
+  return (chant_collected){0, 0, w->now.a, w->steps, w->filled};
 }
 
 chant_reply plain_drop(struct plain *e, uint32_t worker) {

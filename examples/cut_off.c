@@ -27,7 +27,8 @@ static void try_job(uint32_t worker, const uint8_t *job, size_t length) {
   while (chant_step(state, CHANT_STATE_NUMBERS, worker).number == 0) {}
   chant_collected told = chant_collect(state, CHANT_STATE_NUMBERS, worker);
   accept(told.number, told.place);
-  printf("worker %u: %s, after %u steps\n", (unsigned)worker, answers[told.answer], (unsigned)told.steps);
+  printf("worker %u: %s, after %u steps; log entries filled: %u\n", (unsigned)worker, answers[told.answer], (unsigned)told.steps,
+         (unsigned)told.filled);
 }
 
 static void tell(void) {
@@ -43,6 +44,7 @@ int main(void) {
   chant_reply reply = chant_setup(state, CHANT_STATE_NUMBERS, setup, sizeof setup);
   accept(reply.number, reply.place);
   reply = chant_begin(state, CHANT_STATE_NUMBERS, 0, 0, add, sizeof add);
+  /* Its 6th step and its 10th fill the two entries of its log, so that its helper fills none. */
   for (int step = 0; step < 10 && reply.number == 0; step++) reply = chant_step(state, CHANT_STATE_NUMBERS, 0);
   accept(reply.number, reply.place);
   reply = chant_drop(state, CHANT_STATE_NUMBERS, 0);

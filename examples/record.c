@@ -19,7 +19,7 @@ static void keep(const uint8_t *record, size_t length) {
 
 /* Makes a call; its job is begun under lock 0. */
 static chant_collected make(uint32_t call, uint32_t worker, const uint8_t *job, size_t length) {
-  chant_collected told = {0, 0, 0, 0};
+  chant_collected told = {0, 0, 0, 0, 0};
   if (call == CHANT_BEGIN) told.number = chant_begin(state, CHANT_STATE_NUMBERS, worker, 0, job, length).number;
   if (call == CHANT_STEP) told.number = chant_step(state, CHANT_STATE_NUMBERS, worker).number;
   if (call == CHANT_COLLECT) told = chant_collect(state, CHANT_STATE_NUMBERS, worker);
@@ -27,14 +27,16 @@ static chant_collected make(uint32_t call, uint32_t worker, const uint8_t *job, 
   return told;
 }
 
-/* Records a call, makes it and tells its index, its refusal's number (0: accepted), answer and steps; gives the number. The record of a
- * step, collect or drop is the same whichever job is lent. */
+/* Records a call, makes it and tells its index, its refusal's number (0: accepted), answer and steps, and of an accepted collect the
+ * filled entries; gives the number. The record of a step, collect or drop is the same whichever job is lent. */
 static uint32_t recorded(uint32_t call, uint32_t worker, const uint8_t *job, size_t length) {
   static unsigned index = 0;
   uint8_t record[CHANT_CALL_BYTES];
   keep(record, chant_record(call, worker, 0, job, length, record, sizeof record).length);
   chant_collected told = make(call, worker, job, length);
-  fprintf(stderr, "%u %u %u %u\n", index++, (unsigned)told.number, (unsigned)told.answer, (unsigned)told.steps);
+  fprintf(stderr, "%u %u %u %u", index++, (unsigned)told.number, (unsigned)told.answer, (unsigned)told.steps);
+  if (call == CHANT_COLLECT && told.number == 0) fprintf(stderr, " %u", (unsigned)told.filled);
+  fprintf(stderr, "\n");
   return told.number;
 }
 

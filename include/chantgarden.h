@@ -60,7 +60,7 @@ extern "C" {
 #endif
 
 typedef struct { uint32_t number, place; } chant_reply; /* number: 0 accepted */
-typedef struct { uint32_t number, place, answer, steps; } chant_collected;
+typedef struct { uint32_t number, place, answer, steps, filled; } chant_collected;
 typedef struct { uint32_t number, place, value, count, guard; } chant_word;
 typedef struct { uint32_t number, place, turn, held, sheet; } chant_lock; /* held: 0 free, 1 held by sheet */
 typedef struct { uint32_t number, place, length; } chant_wrote;
@@ -79,12 +79,14 @@ CHANT_READ chant_reply chant_begin(uint32_t *state, size_t numbers, uint32_t wor
  * Refused 1, 11, 4. */
 CHANT_READ chant_reply chant_step(uint32_t *state, size_t numbers, uint32_t worker);
 
-/* Hands out a finished worker's answer (CHANT_RAN_YES, CHANT_RAN_NO, CHANT_NOT_TAKEN: not run, may be tried again at once) and
- * the number of accepted steps since begin, and makes the worker idle. Refused 1, 11, 3. */
+/* Hands out a finished worker's answer (CHANT_RAN_YES, CHANT_RAN_NO, CHANT_NOT_TAKEN: not run, may be tried again at once), the
+ * number of accepted steps since begin and that of filled entries, and makes the worker idle. Filled are the entries of the log that
+ * this worker's commits were the first to fill in this try, on its own job's sheet or on the one that it helped: how much of the load
+ * it carried. Refused 1, 11, 3. */
 CHANT_READ chant_collected chant_collect(uint32_t *state, size_t numbers, uint32_t worker);
 
 /* Makes a worker that isn't idle idle, at any point. A held lock stays held: any idle worker that begins there and is stepped runs
- * the job to its end within 97 steps. The answer of a finished worker is lost. Refused 1, 11. */
+ * the job to its end within 97 steps. What collect would have told is lost. Refused 1, 11. */
 CHANT_READ chant_reply chant_drop(uint32_t *state, size_t numbers, uint32_t worker);
 
 /* Tells a word's value, its count of changes since setup, and the lock that guards it.

@@ -140,7 +140,7 @@ fn caller(call: &Call, point: u32) -> &'static str {
 }
 
 /// Plays a schedule; gives what collect told, and the last that was written.
-fn play(side: &mut impl Calls, schedule: &Schedule) -> (Vec<(u32, u32)>, [u8; SIZE]) {
+fn play(side: &mut impl Calls, schedule: &Schedule) -> (Vec<Collected>, [u8; SIZE]) {
     let (mut collected, mut buffer) = (Vec::new(), [0; SIZE]);
     for (call, point) in &schedule.acts {
         match call {
@@ -152,10 +152,7 @@ fn play(side: &mut impl Calls, schedule: &Schedule) -> (Vec<(u32, u32)>, [u8; SI
             } => _ = callers::to_begin(side, *worker, *lock, record),
             Call::Step { worker, .. } => _ = callers::step_at(side, *worker, *point),
             Call::Drop(worker) => _ = callers::to_drop(side, *worker),
-            Call::Collect(worker) => {
-                let told = callers::to_collect(side, *worker);
-                collected.push((told.answer, told.steps));
-            }
+            Call::Collect(worker) => collected.push(callers::to_collect(side, *worker)),
             Call::Show { sheet, .. } => _ = callers::to_show(side, *sheet, &mut buffer),
             Call::Park { .. } => _ = callers::to_park(side, &mut buffer),
             Call::Word(_) | Call::Lock(_) => {}
@@ -276,7 +273,7 @@ mod tests {
     use super::*;
 
     /// All calls and all points occur, some jobs run, some helpers' don't,
-    /// and all three sides do the same.
+    /// some helpers fill entries, and all three sides do the same.
     #[test]
     fn schedules() {
         for workers in WORKERS {
@@ -289,6 +286,9 @@ mod tests {
             }
             let collected = schedule.planned("to_collect");
             assert!((20..collected - 20).contains(&schedule.not_taken));
+            let (told, _) = play(&mut Plain::blank(), &schedule);
+            let filling = |told: &&Collected| told.answer == 3 && told.filled > 0;
+            assert!(told.iter().filter(filling).count() >= 20);
             play_all(workers).expect("they do the same");
         }
     }

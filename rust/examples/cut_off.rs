@@ -26,7 +26,8 @@ fn try_job(engine: &mut Engine, worker: u32, job: &[u8]) -> Result<(), Refusal> 
         Answer::RanNo => "ran, no",
         Answer::NotTaken => "not taken",
     };
-    println!("worker {worker}: {answer}, after {} steps", told.steps);
+    let (steps, filled) = (told.steps, told.filled);
+    println!("worker {worker}: {answer}, after {steps} steps; log entries filled: {filled}");
     Ok(())
 }
 
@@ -46,6 +47,8 @@ fn main() -> Result<(), Refusal> {
     let mut engine = Engine::blank();
     engine.setup(&SETUP)?;
     engine.begin(0, 0, &ADD)?;
+    // Its 6th step and its 10th fill the two entries of its log, so that its
+    // helper fills none.
     for _ in 0..10 {
         engine.step(0)?;
     }

@@ -47,6 +47,7 @@ pub struct Collected {
     pub place: u32,
     pub answer: u32,
     pub steps: u32,
+    pub filled: u32,
 }
 
 /// The header's `chant_word`.
@@ -121,7 +122,8 @@ pub fn step(state: &mut [u32], worker: u32) -> Reply {
     unsafe { chant_step(state.as_mut_ptr(), state.len(), worker) }
 }
 
-/// Hands out a finished worker's answer and its number of steps.
+/// Hands out a finished worker's answer, and how many steps it made and how
+/// many log entries it filled.
 #[inline]
 pub fn collect(state: &mut [u32], worker: u32) -> Collected {
     // SAFETY: one slice, as the module's text says.

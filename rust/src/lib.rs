@@ -102,6 +102,10 @@ pub struct Collected {
     pub answer: Answer,
     /// The accepted steps since begin.
     pub steps: u32,
+    /// The entries of the log that this worker's commits were the first to
+    /// fill in this try, on its own job's sheet or on the one that it helped:
+    /// how much of the load it carried.
+    pub filled: u32,
 }
 
 /// A word.
@@ -184,12 +188,15 @@ impl Engine {
             // The archive gives no number but 3 here.
             _ => Answer::NotTaken,
         };
-        let steps = told.steps;
-        Ok(Collected { answer, steps })
+        Ok(Collected {
+            answer,
+            steps: told.steps,
+            filled: told.filled,
+        })
     }
 
     /// Makes a worker that isn't idle idle, at any point of its try. A held
-    /// lock stays held; the answer of a finished worker is lost.
+    /// lock stays held; what collect would have told is lost.
     pub fn drop_worker(&mut self, worker: u32) -> Result<(), Refusal> {
         accepted(lent::drop(&mut self.numbers, worker))
     }

@@ -1,8 +1,9 @@
-//! The starred rows of document 01's example table, every refusal that calls
-//! can reach, the lent calls with too few numbers, and the records of calls.
+//! The starred rows of document 01's example table, who fills a log's entries,
+//! every refusal that calls can reach, the lent calls with too few numbers,
+//! and the records of calls.
 
 use crate::lent::{self, NUMBERS};
-use crate::{Answer, Collected, Engine, Holder, LockWord, Recorder, Refusal, Word};
+use crate::{Answer, Engine, Holder, LockWord, Recorder, Refusal, Word};
 use std::cell::RefCell;
 
 /// Setup S: two locks, words 5 and 9 under lock 0, word 7 under lock 1.
@@ -17,6 +18,14 @@ const A: [u8; 24] = [
 const B: [u8; 24] = [
     24, 0, 1, 0, 2, 0, 0, 0, 2, 1, 1, 0, 7, 0, 1, 1, 0, 0, 0, 0, 0, 1, 0, 0,
 ];
+/// Job C, step by step: 1 to 4 lead to the run. Load word 0: 5, and commit 6.
+/// Set 9: 7. Cam of word 1, which is not 5: 8, and commit 9. Cam of word 1,
+/// which is 9 and becomes 5: 10, commit 11, swap 12. Skip over a load: 13.
+/// Store 9 to word 0: 14, commit 15, swap 16. Halt 17, Mark 18, Release 19.
+const C: [u8; 36] = [
+    36, 0, 1, 0, 2, 0, 0, 0, 1, 1, 9, 0, 4, 0, 1, 1, 4, 1, 0, 1, 7, 2, 3, 1, 2, 2, 0, 0, 3, 1, 0,
+    0, 0, 1, 0, 0,
+];
 
 fn engine() -> Engine {
     let mut engine = Engine::blank();
@@ -24,25 +33,30 @@ fn engine() -> Engine {
     engine
 }
 
-/// An engine in which worker 0 has made so many steps of job A on lock 0.
+/// Begins a job on lock 0 and makes so many steps of it.
+fn begun(engine: &mut Engine, worker: u32, job: &[u8], steps: u32) {
+    assert_eq!(engine.begin(worker, 0, job), Ok(()));
+    for _ in 0..steps {
+        assert_eq!(engine.step(worker), Ok(()));
+    }
+}
+
+/// An engine in which worker 0 has made so many steps of job A.
 fn with_a(steps: u32) -> Engine {
     let mut engine = engine();
-    assert_eq!(engine.begin(0, 0, &A), Ok(()));
-    for _ in 0..steps {
-        assert_eq!(engine.step(0), Ok(()));
-    }
+    begun(&mut engine, 0, &A, steps);
     engine
 }
 
-/// Steps a worker to its end and collects.
-fn finished(engine: &mut Engine, worker: u32) -> (Answer, u32) {
+/// Steps a worker to its end and collects: answer, steps, filled entries.
+fn finished(engine: &mut Engine, worker: u32) -> (Answer, u32, u32) {
     while engine.step(worker).is_ok() {}
-    let Collected { answer, steps } = engine.collect(worker).expect("it has an answer");
-    (answer, steps)
+    let told = engine.collect(worker).expect("it has an answer");
+    (told.answer, told.steps, told.filled)
 }
 
-fn alone(engine: &mut Engine, worker: u32, job: &[u8]) -> (Answer, u32) {
-    assert_eq!(engine.begin(worker, 0, job), Ok(()));
+fn alone(engine: &mut Engine, worker: u32, job: &[u8]) -> (Answer, u32, u32) {
+    begun(engine, worker, job, 0);
     finished(engine, worker)
 }
 
@@ -67,10 +81,10 @@ fn lock(turn: u32, holder: Holder) -> Result<LockWord, Refusal> {
 #[test]
 fn rows_a_and_b() {
     let mut engine = engine();
-    assert_eq!(alone(&mut engine, 0, &A), (Answer::RanYes, 14));
+    assert_eq!(alone(&mut engine, 0, &A), (Answer::RanYes, 14, 2));
     assert_eq!(engine.read_word(0), word(6, 1));
     assert_eq!(engine.read_lock(0), lock(1, Holder::Free));
-    assert_eq!(alone(&mut engine, 0, &B), (Answer::RanNo, 12));
+    assert_eq!(alone(&mut engine, 0, &B), (Answer::RanNo, 12, 2));
 }
 
 #[test]
@@ -79,7 +93,7 @@ fn rows_c_and_d() {
     assert_eq!(engine.drop_worker(0), Ok(()));
     assert_eq!(engine.read_word(0), word(5, 0));
     assert_eq!(engine.read_lock(0), lock(1, Holder::Sheet(0)));
-    assert_eq!(alone(&mut engine, 1, &B), (Answer::NotTaken, 11));
+    assert_eq!(alone(&mut engine, 1, &B), (Answer::NotTaken, 11, 0));
     assert_eq!(engine.read_word(0), word(6, 1));
     assert_eq!(engine.read_lock(0), lock(1, Holder::Free));
 }
@@ -87,8 +101,8 @@ fn rows_c_and_d() {
 #[test]
 fn row_e() {
     let mut engine = with_a(10);
-    assert_eq!(alone(&mut engine, 1, &B), (Answer::NotTaken, 11));
-    assert_eq!(finished(&mut engine, 0), (Answer::RanYes, 14));
+    assert_eq!(alone(&mut engine, 1, &B), (Answer::NotTaken, 11, 0));
+    assert_eq!(finished(&mut engine, 0), (Answer::RanYes, 14, 2));
     assert_eq!(engine.read_word(0), word(6, 1));
 }
 
@@ -105,15 +119,15 @@ fn row_g() {
     assert_eq!(engine.begin(1, 0, &B), Ok(()));
     assert_eq!(engine.step(1), Ok(()));
     assert_eq!(engine.step(0), Ok(()));
-    assert_eq!(finished(&mut engine, 1), (Answer::NotTaken, 14));
+    assert_eq!(finished(&mut engine, 1), (Answer::NotTaken, 14, 2));
     assert_eq!(engine.read_word(0), word(6, 1));
 }
 
 #[test]
 fn row_h() {
     let mut engine = with_a(2);
-    assert_eq!(alone(&mut engine, 1, &B), (Answer::NotTaken, 11));
-    assert_eq!(finished(&mut engine, 0), (Answer::RanYes, 14));
+    assert_eq!(alone(&mut engine, 1, &B), (Answer::NotTaken, 11, 2));
+    assert_eq!(finished(&mut engine, 0), (Answer::RanYes, 14, 0));
     assert_eq!(engine.read_word(0), word(6, 1));
 }
 
@@ -123,6 +137,66 @@ fn rows_i_and_j() {
     skip_two[15] = 2;
     assert_eq!(engine().begin(0, 0, &skip_two), refused(7, 2));
     assert_eq!(engine().begin(0, 1, &A), refused(8, 0));
+}
+
+/// Worker 0 is cut off after each number of C's steps, and worker 1 fills what
+/// is left of C's four entries. C alone takes 4 steps to its run, 13 in it,
+/// then Mark and Release, 19; worker 1 comes to the run by Look: 16.
+#[test]
+fn filled_after_a_cut() {
+    assert_eq!(alone(&mut engine(), 0, &C), (Answer::RanYes, 19, 4));
+    for cut in 0..=19 {
+        let mut engine = engine();
+        begun(&mut engine, 0, &C, cut);
+        assert_eq!(engine.drop_worker(0), Ok(()));
+        let rest = match cut {
+            2..=5 => (Answer::NotTaken, 16, 4),
+            6..=8 => (Answer::NotTaken, 16, 3),
+            9..=10 => (Answer::NotTaken, 16, 2),
+            11..=14 => (Answer::NotTaken, 16, 1),
+            15..=18 => (Answer::NotTaken, 16, 0),
+            // C has not grabbed the lock yet, or has released it: B's own two.
+            _ => (Answer::RanNo, 12, 2),
+        };
+        assert_eq!(alone(&mut engine, 1, &B), rest, "cut off after {cut}");
+    }
+}
+
+/// Three workers fill C's entries: worker 0 two of them in 9 steps, worker 1
+/// the third in 8 (Look, the seven steps from 5 to 11), worker 2 the last.
+#[test]
+fn filled_by_three() {
+    let mut engine = engine();
+    begun(&mut engine, 0, &C, 9);
+    assert_eq!(engine.drop_worker(0), Ok(()));
+    begun(&mut engine, 1, &B, 8);
+    assert_eq!(alone(&mut engine, 2, &B), (Answer::NotTaken, 16, 1));
+    assert_eq!(finished(&mut engine, 1), (Answer::NotTaken, 16, 1));
+    assert_eq!(engine.read_word(0), word(9, 1));
+}
+
+/// Worker 0 fills the first of A's entries in 6 steps and has read for the
+/// second in 9; worker 1 is the first to fill that.
+#[test]
+fn filled_by_owner_and_helper() {
+    for steps in 6..=9 {
+        let mut engine = with_a(steps);
+        assert_eq!(alone(&mut engine, 1, &B), (Answer::NotTaken, 11, 1));
+        assert_eq!(finished(&mut engine, 0), (Answer::RanYes, 14, 1));
+    }
+}
+
+/// Worker 0 has filled both of A's entries; a refused collect tells nothing of
+/// it, a drop loses it, and the next begin counts from 0.
+#[test]
+fn filled_and_lost() {
+    let mut engine = with_a(10);
+    let told = lent::collect(&mut engine.numbers, 0);
+    let (number, nothing) = (3, lent::Collected::default());
+    assert_eq!(told, lent::Collected { number, ..nothing });
+    assert_eq!(engine.drop_worker(0), Ok(()));
+    assert_eq!(alone(&mut engine, 0, &B), (Answer::NotTaken, 11, 0));
+    assert_eq!(alone(&mut engine, 0, &B), (Answer::RanNo, 12, 2));
 }
 
 #[test]
@@ -190,9 +264,9 @@ fn the_writers_and_their_refusals() {
 fn the_numbers_are_the_state() {
     let mut engine = with_a(10);
     let mut other = engine.clone();
-    assert_eq!(finished(&mut other, 0), (Answer::RanYes, 14));
+    assert_eq!(finished(&mut other, 0), (Answer::RanYes, 14, 2));
     assert_eq!(engine.read_word(0), word(5, 0));
-    assert_eq!(finished(&mut engine, 0), (Answer::RanYes, 14));
+    assert_eq!(finished(&mut engine, 0), (Answer::RanYes, 14, 2));
     assert_eq!(engine.numbers, other.numbers);
     assert_eq!(engine.setup(&S[..28]), refused(5, 0));
     assert_eq!(engine.numbers, Engine::blank().numbers);

@@ -1,9 +1,12 @@
-//! The checker of demand 3. It makes the calls on an engine, keeps for each
-//! lock the list of tries that won it, and after every call holds the lock's
-//! words against that list. It knows of the engine only what its calls tell.
+//! The checker of demand 3 and of request 02. It makes the calls on an
+//! engine, keeps for each lock the list of tries that won it, and after every
+//! call holds the lock's words against that list. It also keeps who filled
+//! each log entry: one that is empty before a step and filled after it was
+//! filled by that step. It knows of the engine only what its calls tell, and
+//! which entries are filled.
 
 use crate::alone;
-use crate::engine::{Engine, Instruction, LockWord, Standing, Wrong};
+use crate::engine::{Answer, Collected, Engine, Instruction, LockWord, Refusal, Standing, Wrong};
 use crate::generate::{Generator, Kind, SHORTEST_JOB};
 use crate::script::{perform, Call, Outcome, Told};
 
@@ -20,6 +23,9 @@ struct Try {
     won: Option<bool>,
     /// Its answer was handed out.
     answered: bool,
+    /// The numbers of the tries that filled the entries of its own sheet's
+    /// log, whatever became of their workers: one for each entry.
+    log: Vec<usize>,
 }
 
 /// What is kept for one lock.
@@ -38,6 +44,20 @@ struct Kept {
     seen: LockWord,
 }
 
+/// What is kept for one sheet.
+#[derive(Clone, Copy, Debug)]
+struct Taken {
+    /// The number of the try whose begin took it last.
+    by: Option<usize>,
+    /// Which entries of its log were filled after the last call, as bits.
+    filled: u32,
+}
+
+const NOT_TAKEN: Taken = Taken {
+    by: None,
+    filled: 0,
+};
+
 /// What was found to be broken, in words.
 pub type Broken = String;
 
@@ -49,6 +69,8 @@ pub struct Checker {
     tries: Vec<Try>,
     /// The number of each worker's try.
     current: [Option<usize>; Engine::WORKERS],
+    taken: [Taken; Engine::SHEETS],
+    shared: u32,
 }
 
 impl Checker {
@@ -59,6 +81,8 @@ impl Checker {
             kept: Vec::new(),
             tries: Vec::new(),
             current: [None; Engine::WORKERS],
+            taken: [NOT_TAKEN; Engine::SHEETS],
+            shared: 0,
         };
         checker.start_afresh();
         checker
@@ -71,6 +95,12 @@ impl Checker {
     /// The numbers of the tries that won a lock, in order.
     pub fn list(&self, lock: usize) -> &[usize] {
         &self.kept[lock].list
+    }
+
+    /// How many collected tries had filled some entries of a log, and not all
+    /// of them.
+    pub fn shared(&self) -> u32 {
+        self.shared
     }
 
     /// Makes a call and checks what came of it. Several steps in one call
@@ -90,6 +120,10 @@ impl Checker {
     }
 
     fn single(&mut self, call: &Call) -> Result<Outcome, Broken> {
+        let free = match call {
+            Call::Begin { .. } => self.lowest_free(),
+            _ => None,
+        };
         let outcome = perform(&mut self.engine, call);
         let mut stepped = None;
         let accepted = outcome.refusal.is_none();
@@ -99,7 +133,7 @@ impl Checker {
                 worker,
                 lock,
                 record,
-            } if accepted => self.note_begin(*worker, *lock, record),
+            } if accepted => self.note_begin(*worker, *lock, record, free)?,
             Call::Step { worker, .. } if accepted => stepped = Some(self.note_step(*worker)?),
             Call::Collect(worker) if accepted => self.note_collect(*worker, &outcome.told)?,
             Call::Drop(worker) if accepted => self.current[*worker as usize] = None,
@@ -109,7 +143,19 @@ impl Checker {
             self.check_lock(lock, stepped)?;
             self.check_words(lock)?;
         }
+        for sheet in 0..Engine::SHEETS {
+            self.check_log(sheet, stepped)?;
+        }
         Ok(outcome)
+    }
+
+    /// The sheet that a begin takes, by what show says of each.
+    fn lowest_free(&self) -> Option<usize> {
+        let free = |&sheet: &usize| {
+            let shown = self.engine.show(sheet as u32, &mut []);
+            matches!(shown, Err(Refusal { number: 14, .. }))
+        };
+        (0..Engine::SHEETS).find(free)
     }
 
     /// Reads the state that a setup, accepted or refused, has given.
@@ -133,11 +179,24 @@ impl Checker {
             .collect();
         self.tries = Vec::new();
         self.current = [None; Engine::WORKERS];
+        self.taken = [NOT_TAKEN; Engine::SHEETS];
     }
 
-    fn note_begin(&mut self, worker: u32, lock: u32, record: &[u8]) {
+    /// An accepted begin, and the sheet that was the lowest free one.
+    fn note_begin(
+        &mut self,
+        worker: u32,
+        lock: u32,
+        record: &[u8],
+        free: Option<usize>,
+    ) -> Result<(), Broken> {
         let four = |bytes: &[u8]| [bytes[0], bytes[1], bytes[2], bytes[3]];
-        self.current[worker as usize] = Some(self.tries.len());
+        let number = self.tries.len();
+        let Some(sheet) = free else {
+            return Err(format!("try {number} begins without a free sheet"));
+        };
+        self.current[worker as usize] = Some(number);
+        self.taken[sheet].by = Some(number);
         self.tries.push(Try {
             lock: lock as usize,
             program: record[4..].chunks(4).map(four).collect(),
@@ -145,7 +204,9 @@ impl Checker {
             helps_first: false,
             won: None,
             answered: false,
+            log: Vec::new(),
         });
+        Ok(())
     }
 
     /// An accepted step: the try is still within its bound.
@@ -169,14 +230,21 @@ impl Checker {
         Ok(number)
     }
 
-    /// An accepted collect: the answer is the list's, the number the steps'.
+    /// An accepted collect: the answer is the list's, the numbers those of
+    /// the steps and of the fillings.
     fn note_collect(&mut self, worker: u32, told: &Told) -> Result<(), Broken> {
         let Some(number) = self.current[worker as usize].take() else {
             return Err(format!("worker {worker} collects without a try"));
         };
-        let &Told::Collected { answer, steps } = told else {
+        let &Told::Collected(Some(Collected {
+            answer,
+            steps,
+            filled,
+        })) = told
+        else {
             return Err(format!("a collect tells {told:?}"));
         };
+        self.check_fillings(number, filled)?;
         let attempt = &mut self.tries[number];
         attempt.answered = true;
         if steps != attempt.steps {
@@ -184,12 +252,48 @@ impl Checker {
             return Err(format!("try {number} tells {steps} steps, not {accepted}"));
         }
         let right = match attempt.won {
-            Some(true) => 1,
-            Some(false) => 2,
-            None => 3,
+            Some(true) => Answer::RanYes,
+            Some(false) => Answer::RanNo,
+            None => Answer::NotTaken,
         };
         if answer != right {
+            let (answer, right) = (answer.number(), right.number());
             return Err(format!("try {number} is told answer {answer}, not {right}"));
+        }
+        Ok(())
+    }
+
+    /// A try tells as many fillings as its steps made.
+    fn check_fillings(&mut self, number: usize, filled: u32) -> Result<(), Broken> {
+        let mut made = 0;
+        for Try { log, .. } in &self.tries {
+            let part = log.iter().filter(|&&by| by == number).count();
+            made += part as u32;
+            self.shared += u32::from(0 < part && part < log.len());
+        }
+        if filled != made {
+            return Err(format!("try {number} tells {filled} fillings, not {made}"));
+        }
+        Ok(())
+    }
+
+    /// The fillings by steps since the begin that took the sheet are as many
+    /// as the filled entries of its log.
+    fn check_log(&mut self, sheet: usize, stepped: Option<usize>) -> Result<(), Broken> {
+        let now = self.engine.filled(sheet);
+        let Taken { by, filled: before } = self.taken[sheet];
+        self.taken[sheet].filled = now;
+        let fillings = (now & !before).count_ones() as usize;
+        let entries = now.count_ones() as usize;
+        if let (Some(owner), Some(number)) = (by, stepped) {
+            let filled_by = std::iter::repeat_n(number, fillings);
+            self.tries[owner].log.extend(filled_by);
+        }
+        let made = by.map_or(0, |owner| self.tries[owner].log.len());
+        if entries != made {
+            return Err(format!(
+                "sheet {sheet} has {entries} entries of {made} fillings"
+            ));
         }
         Ok(())
     }

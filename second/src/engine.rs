@@ -1,6 +1,9 @@
 //! The engine in place: workers, locks, words and sheets, and the calls on
-//! them, straight from document 01. The numbers in comments such as "step 4"
-//! are those of "One try, step by step".
+//! them, straight from document 01, with request 02's count of filled entries.
+//! The numbers in comments such as "step 4" are those of "One try, step by
+//! step".
+
+use std::ops::Range;
 
 /// One instruction of a job: op, a, b, c.
 pub type Instruction = [u8; 4];
@@ -41,6 +44,16 @@ impl Answer {
             Answer::NotTaken => 3,
         }
     }
+}
+
+/// What collect hands out.
+#[derive(Clone, Copy, PartialEq, Eq, Debug)]
+pub struct Collected {
+    pub answer: Answer,
+    /// The accepted steps since begin.
+    pub steps: u32,
+    /// The entries that this worker was the first to fill in its try.
+    pub filled: u32,
 }
 
 /// A word: its value, its count of changes and its guarding lock.
@@ -172,16 +185,20 @@ enum State {
     Finished(Answer),
 }
 
-/// A worker's state, and the accepted steps since its begin.
+/// A worker's state, and what it counts in its try: the accepted steps, and
+/// the entries, on its own sheet or the helped one, that it was the first to
+/// fill.
 #[derive(Clone, Copy, PartialEq, Eq, Debug)]
 struct Worker {
     state: State,
     steps: u32,
+    filled: u32,
 }
 
 const IDLE: Worker = Worker {
     state: State::Idle,
     steps: 0,
+    filled: 0,
 };
 
 /// What a worker is doing, for the makers of histories only.
@@ -192,8 +209,9 @@ pub enum Standing {
     Finished,
 }
 
-/// The shortcuts that document 01 shuts out. The tests make the engine wrong
-/// on purpose with one of them, to see that the checker catches it.
+/// The shortcuts that document 01 shuts out, and slips in request 02's count.
+/// The tests make the engine wrong on purpose with one of them, to see that
+/// it is caught.
 #[derive(Clone, Copy, PartialEq, Eq, Debug)]
 pub enum Wrong {
     /// No shortcut: the engine of document 01.
@@ -212,6 +230,10 @@ pub enum Wrong {
     HelpedFromStepFour,
     /// A commit goes on with the own reading though the entry was filled.
     OwnReading,
+    /// A commit counts as a filling though the entry was filled.
+    EveryCommitCounts,
+    /// Fillings of a helped sheet don't count.
+    OwnSheetCounts,
 }
 
 /// The whole state.
@@ -286,15 +308,14 @@ impl Engine {
         *sheet = FREE_SHEET;
         sheet.program[..program.len()].copy_from_slice(&program);
         sheet.length = program.len();
-        let log = own * Engine::INSTRUCTIONS;
-        self.entries[log..log + Engine::INSTRUCTIONS].fill(None);
+        self.entries[log_of(own)].fill(None);
         let state = State::UnderWay(Try {
             lock,
             own,
             helped: None,
             point: Point::Look,
         });
-        self.workers[worker] = Worker { state, steps: 0 };
+        self.workers[worker] = Worker { state, ..IDLE };
         Ok(())
     }
 
@@ -306,22 +327,32 @@ impl Engine {
             State::Finished(_) => return refused(4),
             State::UnderWay(attempt) => attempt,
         };
-        let state = self.one_step(attempt);
-        let steps = self.workers[worker].steps + 1;
-        self.workers[worker] = Worker { state, steps };
+        let (state, filled) = self.one_step(attempt);
+        let worker = &mut self.workers[worker];
+        worker.state = state;
+        worker.steps += 1;
+        worker.filled += u32::from(filled);
         Ok(())
     }
 
-    /// Hands out a finished worker's answer and its number of steps.
-    pub fn collect(&mut self, worker: u32) -> Result<(Answer, u32), Refusal> {
+    /// Hands out a finished worker's answer and what it counted.
+    pub fn collect(&mut self, worker: u32) -> Result<Collected, Refusal> {
         let worker = worker_index(worker)?;
-        match self.workers[worker].state {
+        let Worker {
+            state,
+            steps,
+            filled,
+        } = self.workers[worker];
+        match state {
             State::Idle => refused(11),
             State::UnderWay(_) => refused(3),
             State::Finished(answer) => {
-                let steps = self.workers[worker].steps;
                 self.workers[worker] = IDLE;
-                Ok((answer, steps))
+                Ok(Collected {
+                    answer,
+                    steps,
+                    filled,
+                })
             }
         }
     }
@@ -387,6 +418,13 @@ impl Engine {
         }
     }
 
+    /// Which entries of a sheet's log are filled, a bit for each from the
+    /// lowest on; for the checker only.
+    pub fn filled(&self, sheet: usize) -> u32 {
+        let log = self.entries[log_of(sheet)].iter().rev();
+        log.fold(0, |bits, entry| 2 * bits + u32::from(entry.is_some()))
+    }
+
     fn lock_index(&self, lock: u32) -> Result<usize, Refusal> {
         if (lock as usize) < self.locks.len() {
             Ok(lock as usize)
@@ -430,8 +468,10 @@ impl Engine {
 
 /// One try, step by step.
 impl Engine {
-    fn one_step(&mut self, attempt: Try) -> State {
-        match attempt.point {
+    /// The state after one step, and whether the step filled an entry: only
+    /// one of 5 can.
+    fn one_step(&mut self, attempt: Try) -> (State, bool) {
+        let state = match attempt.point {
             Point::Look => self.look(attempt),
             Point::Grab { turn } => self.grab(attempt, turn),
             Point::LookAgain { turn } => self.look_again(attempt, turn),
@@ -443,10 +483,15 @@ impl Engine {
                 let seen = self.locks[attempt.lock];
                 self.turn_to(attempt, turn, seen, marked)
             }
-            Point::Run(run) => attempt.at(self.run_step(run)),
+            Point::Run(run) => {
+                let (point, filled) = self.run_step(run);
+                let counts = run.sheet == attempt.own || self.wrong != Wrong::OwnSheetCounts;
+                return (attempt.at(point), filled && counts);
+            }
             Point::Mark(end) => self.mark(attempt, end),
             Point::Release(end) => self.release(attempt, end),
-        }
+        };
+        (state, false)
     }
 
     /// Step 1. The held sheet counts as helped from this step on.
@@ -502,18 +547,21 @@ impl Engine {
         }
     }
 
-    /// One step of 5.
-    fn run_step(&mut self, mut run: Run) -> Point {
+    /// One step of 5, and whether it filled an entry.
+    fn run_step(&mut self, mut run: Run) -> (Point, bool) {
         let instruction = self.sheets[run.sheet].program[run.instruction];
         let [op, a, b, c] = instruction;
         let (ra, rb) = (usize::from(a), usize::from(b));
         match op {
             0 => {
                 let (sheet, turn, yes) = (run.sheet, run.turn, a == 1);
-                return self.after_halt(End { sheet, turn, yes });
+                return (self.after_halt(End { sheet, turn, yes }), false);
             }
             1 => run.registers[ra] = u32::from(b) + 256 * u32::from(c),
-            2..=4 => return Point::Run(self.word_step(run, instruction)),
+            2..=4 => {
+                let filled = self.word_step(&mut run, instruction);
+                return (Point::Run(run), filled);
+            }
             5 => run.registers[ra] = run.registers[ra].wrapping_add(run.registers[rb]),
             6 => run.registers[ra] = run.registers[ra].wrapping_sub(run.registers[rb]),
             7 if run.registers[ra] == run.registers[rb] => run.instruction += usize::from(c),
@@ -521,17 +569,18 @@ impl Engine {
             8..=255 => unreachable!("begin takes no such instruction"),
         }
         run.go_on();
-        Point::Run(run)
+        (Point::Run(run), false)
     }
 
-    /// One step of a load, store or cam: read, commit or swap.
-    fn word_step(&mut self, mut run: Run, [op, a, b, c]: Instruction) -> Run {
+    /// One step of a load, store or cam: read, commit or swap. Tells whether
+    /// it filled an entry.
+    fn word_step(&mut self, run: &mut Run, [op, a, b, c]: Instruction) -> bool {
         let word = usize::from(if op == 4 { c } else { b });
         let ra = usize::from(a);
         match run.part {
             Part::Start => run.part = Part::Commit(self.reading(word)),
             Part::Commit(read) => {
-                let entry = self.commit(&mut run, read);
+                let (entry, filled) = self.commit(run, read);
                 match op {
                     2 => {
                         run.registers[ra] = entry.value;
@@ -540,6 +589,7 @@ impl Engine {
                     4 if entry.value != run.registers[ra] => run.go_on(),
                     _ => run.part = Part::Swap(entry),
                 }
+                return filled;
             }
             Part::Swap(entry) => {
                 let from = if op == 4 { usize::from(b) } else { ra };
@@ -547,7 +597,7 @@ impl Engine {
                 run.go_on();
             }
         }
-        run
+        false
     }
 
     fn reading(&self, word: usize) -> Entry {
@@ -556,15 +606,17 @@ impl Engine {
     }
 
     /// An empty entry takes what was read; the run goes on with what the
-    /// entry holds, and the log place rises by one.
-    fn commit(&mut self, run: &mut Run, read: Entry) -> Entry {
-        let entry = &mut self.entries[run.sheet * Engine::INSTRUCTIONS + run.place];
+    /// entry holds, and the log place rises by one. Also says whether this
+    /// commit filled the entry.
+    fn commit(&mut self, run: &mut Run, read: Entry) -> (Entry, bool) {
+        let entry = &mut self.entries[log_of(run.sheet)][run.place];
         run.place += 1;
+        let filled = entry.is_none() || self.wrong == Wrong::EveryCommitCounts;
         let held = *entry.get_or_insert(read);
         if self.wrong == Wrong::OwnReading {
-            return read;
+            return (read, filled);
         }
-        held
+        (held, filled)
     }
 
     /// The word changes only if value and count equal the entry's.
@@ -622,6 +674,12 @@ fn finish(attempt: Try, end: End) -> State {
         (true, false) => Answer::RanNo,
         (false, _) => Answer::NotTaken,
     })
+}
+
+/// Where a sheet's log stands among the entries.
+fn log_of(sheet: usize) -> Range<usize> {
+    let first = sheet * Engine::INSTRUCTIONS;
+    first..first + Engine::INSTRUCTIONS
 }
 
 fn worker_index(worker: u32) -> Result<usize, Refusal> {

@@ -93,15 +93,14 @@ fn make_calls(engine: &mut Engine, reader: &mut Reader, lines: &mut String) -> E
     Ended::Whole
 }
 
-/// The line of a call: its index, its refusal's number, and what a collect
-/// has told.
+/// The line of a call: its index, its refusal's number, and what an accepted
+/// collect has told, three numbers by request 02; two zeros for any other.
 fn line(index: usize, outcome: &Outcome) -> String {
     let number = outcome.refusal.map_or(0, |refusal| refusal.number);
-    let (answer, steps) = match outcome.told {
-        Told::Collected { answer, steps } => (answer, steps),
-        _ => (0, 0),
-    };
-    format!("{index} {number} {answer} {steps}\n")
+    match outcome.told {
+        Told::Collected(Some(told)) => format!("{index} {number} {told}\n"),
+        _ => format!("{index} {number} 0 0\n"),
+    }
 }
 
 /// Holds the recorded bytes and its place among them. It does not pass a

@@ -1,6 +1,6 @@
 //! The script language: one call a line in, one line of outcome out.
 
-use crate::engine::{Engine, LockWord, Refusal, Word};
+use crate::engine::{Collected, Engine, LockWord, Refusal, Word};
 use std::fmt;
 
 /// The longest script, in bytes.
@@ -37,12 +37,13 @@ pub enum Call {
     },
 }
 
-/// What a call tells beside its refusal.
+/// What a call tells beside its refusal; none is collected where a collect
+/// is refused.
 #[derive(Clone, PartialEq, Eq, Debug)]
 pub enum Told {
     Nothing,
     Steps(u32),
-    Collected { answer: u32, steps: u32 },
+    Collected(Option<Collected>),
     Word(Word),
     Lock(LockWord),
     Written { count: usize, buffer: Vec<u8> },
@@ -81,7 +82,8 @@ impl fmt::Display for Outcome {
         match &self.told {
             Told::Nothing => Ok(()),
             Told::Steps(steps) => write!(out, " {steps}"),
-            Told::Collected { answer, steps } => write!(out, " {answer} {steps}"),
+            Told::Collected(Some(told)) => write!(out, " {told}"),
+            Told::Collected(None) => write!(out, " 0 0 0"),
             Told::Word(word) => write!(out, " {} {} {}", word.value, word.count, word.guard),
             Told::Lock(lock) => match lock.sheet {
                 Some(sheet) => write!(out, " {} {sheet}", lock.turn),
@@ -89,6 +91,15 @@ impl fmt::Display for Outcome {
             },
             Told::Written { count, buffer } => write!(out, " {count} {}", hex(buffer)),
         }
+    }
+}
+
+/// The numbers that a line has of an accepted collect, in a script's output
+/// and a file's.
+impl fmt::Display for Collected {
+    fn fmt(&self, out: &mut fmt::Formatter) -> fmt::Result {
+        let (answer, steps, filled) = (self.answer.number(), self.steps, self.filled);
+        write!(out, "{answer} {steps} {filled}")
     }
 }
 
@@ -139,11 +150,9 @@ pub fn perform(engine: &mut Engine, call: &Call) -> Outcome {
         } => nothing_told(engine.begin(*worker, *lock, record)),
         Call::Step { worker, times } => steps(engine, *worker, *times),
         Call::Collect(worker) => {
-            let (answer, steps) = (0, 0);
-            let refused = Told::Collected { answer, steps };
-            Outcome::of(engine.collect(*worker), refused, |(answer, steps)| {
-                let answer = answer.number();
-                Told::Collected { answer, steps }
+            let refused = Told::Collected(None);
+            Outcome::of(engine.collect(*worker), refused, |told| {
+                Told::Collected(Some(told))
             })
         }
         Call::Drop(worker) => nothing_told(engine.drop_worker(*worker)),

@@ -1,5 +1,5 @@
-//! The checker of demand 3 over random histories of the right engine, and
-//! over engines that are made wrong on purpose.
+//! The checker of demand 3 and request 02 over random histories of the right
+//! engine, and over engines that are made wrong on purpose.
 
 mod common;
 use common::{job, setup};
@@ -8,7 +8,7 @@ use second::engine::{Engine, Wrong};
 use second::generate::Kind;
 use second::script::Call;
 
-const SHORTCUTS: [Wrong; 7] = [
+const WRONG: [Wrong; 9] = [
     Wrong::MarkBeforeLook,
     Wrong::SwapByValue,
     Wrong::ReleaseBeforeMark,
@@ -16,9 +16,12 @@ const SHORTCUTS: [Wrong; 7] = [
     Wrong::FreeThoughHeld,
     Wrong::HelpedFromStepFour,
     Wrong::OwnReading,
+    Wrong::EveryCommitCounts,
+    Wrong::OwnSheetCounts,
 ];
 
-/// How many random histories are made, at most, until a shortcut is caught.
+/// How many random histories are made, at most, until a wrong engine is
+/// caught.
 const HISTORIES: u64 = 4_000;
 const CALLS: u32 = 300;
 
@@ -38,7 +41,8 @@ fn right_engine_in_wide_histories() {
     }
 }
 
-/// The first random history in which a shortcut breaks demand 3.
+/// The first random history in which a wrong engine breaks demand 3, or
+/// tells a wrong number of fillings.
 fn caught(wrong: Wrong, kind: Kind) -> Option<(u64, Broken)> {
     (0..HISTORIES).find_map(|seed| {
         let broken = random_history(wrong, seed, kind, CALLS).err()?;
@@ -47,8 +51,8 @@ fn caught(wrong: Wrong, kind: Kind) -> Option<(u64, Broken)> {
 }
 
 #[test]
-fn random_histories_catch_every_shortcut() {
-    for wrong in SHORTCUTS {
+fn random_histories_catch_every_wrong_engine() {
+    for wrong in WRONG {
         for kind in [Kind::Narrow, Kind::Wide] {
             let found = caught(wrong, kind);
             println!("{wrong:?}, {kind:?}: {found:?}");
@@ -231,6 +235,26 @@ fn own_reading_on_schedule() {
         Collect(0),
     ];
     only_wrong_is_caught(Wrong::OwnReading, &schedule, "words [0, 1] are [7, 9]");
+}
+
+/// Of add_one's two entries the owner fills the first, and is dropped; the
+/// helper finds it filled, and fills the second.
+#[test]
+fn fillings_on_schedule() {
+    let schedule = [
+        Begin(0, add_one()),
+        Step(0, 6),
+        Drop(0),
+        Begin(1, clear_other()),
+        Step(1, 1000),
+        Collect(1),
+    ];
+    only_wrong_is_caught(
+        Wrong::EveryCommitCounts,
+        &schedule,
+        "tells 2 fillings, not 1",
+    );
+    only_wrong_is_caught(Wrong::OwnSheetCounts, &schedule, "tells 0 fillings, not 1");
 }
 
 /// The list holds the tries that won, in the order of their turns; a dropped

@@ -40,14 +40,13 @@ fn after_s(records: &[Vec<u8>]) -> Vec<u8> {
     [bytes(S), records.concat()].concat()
 }
 
-/// The refusals' numbers and what was collected, of each line; the index is
-/// the line's.
-fn told(file: &[u8]) -> Vec<(u32, u32, u32)> {
+/// Each line but for its index, which is the line's.
+fn told(file: &[u8]) -> Vec<String> {
     let lines = run(file);
     let told = lines.lines().enumerate().map(|(index, line)| {
-        let numbers: Vec<u32> = line.split(' ').map(|word| word.parse().unwrap()).collect();
-        assert_eq!((numbers.len(), numbers[0]), (4, index as u32), "{line}");
-        (numbers[1], numbers[2], numbers[3])
+        let (first, rest) = line.split_once(' ').expect(line);
+        assert_eq!(first, index.to_string(), "{line}");
+        rest.to_string()
     });
     told.collect()
 }
@@ -81,13 +80,39 @@ fn a_dropped_try_and_its_helper() {
         steps(1, 12),
         collect(1),
     ]);
-    let mut wanted = vec![(0, 0, 0); 39];
-    wanted[24] = (0, 3, 11);
-    wanted[38] = (0, 2, 12);
+    let mut wanted = vec!["0 0 0"; 39];
+    wanted[24] = "0 3 11 0";
+    wanted[38] = "0 2 12 2";
     assert_eq!(told(&file), wanted);
     let engine = walk(&file).engine;
     assert_eq!(engine.read_word(0).unwrap().value, 6);
     assert_eq!(engine.read_lock(0).unwrap().turn, 2);
+}
+
+/// A helper fills the first entry of A's log, the owner the second: an
+/// accepted collect has a fifth number. A drop tells nothing of it.
+#[test]
+fn a_shared_log() {
+    let file = |last: fn(u8) -> Vec<u8>| {
+        after_s(&[
+            begin(0, A),
+            steps(0, 2),
+            begin(1, B),
+            steps(1, 3),
+            steps(0, 12),
+            steps(1, 8),
+            collect(0),
+            last(1),
+            collect(1),
+        ])
+    };
+    let mut wanted = vec!["0 0 0"; 30];
+    wanted[27] = "0 1 14 1";
+    wanted[28] = "0 3 11 1";
+    wanted[29] = "11 0 0";
+    assert_eq!(told(&file(collect)), wanted);
+    wanted[28] = "0 0 0";
+    assert_eq!(told(&file(drop_worker)), wanted);
 }
 
 /// Each refusal that a call of a file can get, and the walk goes on.
@@ -96,27 +121,27 @@ fn refusals_of_calls_do_not_end_the_walk() {
     let late = setup(&[0, 0, 1], &[5, 9, 7], &[0, 67_108_864]);
     let foreign = [2, 0, 2, 0, 0, 0, 0, 0];
     let before = [
-        (steps(8, 1), (1, 0, 0)),
-        (record(0, 255, 255, &HALT), (1, 0, 0)),
-        (record(0, 7, 2, &HALT), (2, 0, 0)),
-        (record(0, 7, 255, &[8; 4]), (2, 0, 0)),
-        (record(0, 0, 0, &[8, 0, 0, 0]), (7, 0, 0)),
-        (record(0, 0, 0, &foreign), (8, 0, 0)),
-        (record(0, 0, 1, &HALT), (9, 0, 0)),
-        (steps(0, 1), (11, 0, 0)),
-        (record(0, 0, 0, &HALT), (0, 0, 0)),
-        (record(0, 0, 255, &HALT), (3, 0, 0)),
-        (collect(0), (3, 0, 0)),
+        (steps(8, 1), "1 0 0"),
+        (record(0, 255, 255, &HALT), "1 0 0"),
+        (record(0, 7, 2, &HALT), "2 0 0"),
+        (record(0, 7, 255, &[8; 4]), "2 0 0"),
+        (record(0, 0, 0, &[8, 0, 0, 0]), "7 0 0"),
+        (record(0, 0, 0, &foreign), "8 0 0"),
+        (record(0, 0, 1, &HALT), "9 0 0"),
+        (steps(0, 1), "11 0 0"),
+        (record(0, 0, 0, &HALT), "0 0 0"),
+        (record(0, 0, 255, &HALT), "3 0 0"),
+        (collect(0), "3 0 0"),
     ];
-    let whole_try = vec![(steps(0, 1), (0, 0, 0)); 7];
+    let whole_try = vec![(steps(0, 1), "0 0 0"); 7];
     let after = [
-        (steps(0, 1), (4, 0, 0)),
-        (record(0, 0, 0, &HALT), (4, 0, 0)),
-        (collect(255), (1, 0, 0)),
-        (collect(0), (0, 2, 7)),
-        (collect(0), (11, 0, 0)),
-        (drop_worker(0), (11, 0, 0)),
-        (drop_worker(128), (1, 0, 0)),
+        (steps(0, 1), "4 0 0"),
+        (record(0, 0, 0, &HALT), "4 0 0"),
+        (collect(255), "1 0 0"),
+        (collect(0), "0 2 7 0"),
+        (collect(0), "11 0 0"),
+        (drop_worker(0), "11 0 0"),
+        (drop_worker(128), "1 0 0"),
     ];
     let rows = before.into_iter().chain(whole_try).chain(after);
     let (records, lines): (Vec<_>, Vec<_>) = rows.unzip();
@@ -390,8 +415,9 @@ fn line_of(engine: &mut Engine, index: usize, call: &Call) -> String {
     let outcome = perform(engine, call);
     let refusal = outcome.refusal.map_or(0, |refusal| refusal.number);
     match (call, outcome.told) {
-        (Call::Collect(_), Told::Collected { answer, steps }) => {
-            format!("{index} {refusal} {answer} {steps}\n")
+        (Call::Collect(_), Told::Collected(Some(told))) => {
+            let (answer, steps, filled) = (told.answer.number(), told.steps, told.filled);
+            format!("{index} {refusal} {answer} {steps} {filled}\n")
         }
         _ => format!("{index} {refusal} 0 0\n"),
     }

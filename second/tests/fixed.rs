@@ -21,19 +21,19 @@ fn sheet_seen_at_step_three() {
         lock 0 => 0 0 1 0
         step 1 => 0 0 1
         step 0 1000 => 4 0 12
-        collect 0 => 0 0 1 14
+        collect 0 => 0 0 1 14 2
         begin 2 0 B => 0 0
         show 0 24 => 0 0 24 {a}
         show 1 24 => 0 0 24 {b}
         show 2 24 => 0 0 24 {b}
         show 3 0 => 14 0 0 -
         step 1 1000 => 4 0 11
-        collect 1 => 0 0 3 14
+        collect 1 => 0 0 3 14 0
         show 0 0 => 14 0 0 -
         word 0 => 0 0 6 1 0
         lock 0 => 0 0 1 -
         step 2 1000 => 4 0 12
-        collect 2 => 0 0 2 12"
+        collect 2 => 0 0 2 12 2"
     ));
 }
 
@@ -61,9 +61,9 @@ fn six_then_five_and_a_late_helper() {
         step 1 => 0 0 1
         word 0 => 0 0 5 2 0
         step 0 1000 => 4 0 3
-        collect 0 => 0 0 1 15
+        collect 0 => 0 0 1 15 1
         step 1 1000 => 4 0 7
-        collect 1 => 0 0 3 12
+        collect 1 => 0 0 3 12 1
         word 0 => 0 0 5 2 0
         lock 0 => 0 0 1 -"
     ));
@@ -86,12 +86,12 @@ fn longest_tries() {
         step 2 => 0 0 1
         step 1 2 => 0 0 2
         step 0 1000 => 4 0 98
-        collect 0 => 0 0 2 100
+        collect 0 => 0 0 2 100 31
         word 0 => 0 0 0 31 0
         step 2 1000 => 4 0 96
-        collect 2 => 0 0 3 97
+        collect 2 => 0 0 3 97 0
         step 1 1000 => 4 0 97
-        collect 1 => 0 0 3 100
+        collect 1 => 0 0 3 100 0
         word 0 => 0 0 0 31 0"
     ));
 }
@@ -110,7 +110,7 @@ fn cam_and_equal_swap() {
         "setup S => 0 0
         begin 0 0 {cams} => 0 0
         step 0 1000 => 4 0 13
-        collect 0 => 0 0 2 13
+        collect 0 => 0 0 2 13 2
         word 0 => 0 0 5 1 0"
     ));
 }
@@ -129,7 +129,7 @@ fn load_goes_on_with_the_entry() {
         step 0 7 => 0 0 7
         word 0 => 0 0 6 1 0
         step 0 1000 => 4 0 3
-        collect 0 => 0 0 1 14",
+        collect 0 => 0 0 1 14 0",
     );
 }
 
@@ -148,7 +148,7 @@ fn sheets_that_are_taken_again() {
         begin 1 0 B => 0 0
         show 0 24 => 0 0 24 {b}
         drop 0 => 0 0
-        collect 0 => 11 0 0 0
+        collect 0 => 11 0 0 0 0
         step 1 2 => 0 0 2
         drop 1 => 0 0
         show 0 24 => 0 0 24 {b}

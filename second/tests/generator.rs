@@ -1,5 +1,7 @@
 //! The generator makes what it is for.
 
+use second::check::Checker;
+use second::engine::Engine;
 use second::generate;
 use second::script::{self, parse, Call, LONGEST_SCRIPT};
 use std::collections::BTreeSet;
@@ -9,6 +11,14 @@ fn refusal(line: &str) -> u32 {
     let word = line.split(' ').nth(1).expect("a line has a refusal");
     word.parse()
         .expect("of a script all of whose lines are of the form")
+}
+
+/// The calls of a script all of whose lines are of the form.
+fn calls(text: &[u8]) -> Vec<Call> {
+    let lines = script::lines(text).into_iter();
+    let lines = lines.filter(|line| !script::passed_over(line));
+    let calls = lines.map(|line| parse(line).expect("a line of the form"));
+    calls.collect()
 }
 
 /// Scripts are of the form, have 200 calls or more and fit; together they
@@ -21,12 +31,7 @@ fn scripts_reach_everything() {
     for seed in 0..1_000 {
         let text = generate::history(seed);
         assert!(text.len() + 2_000 <= LONGEST_SCRIPT);
-        let lines: Vec<&[u8]> = script::lines(&text);
-        let calls: Vec<Call> = lines
-            .into_iter()
-            .filter(|line| !script::passed_over(line))
-            .map(|line| parse(line).expect("a line of the form"))
-            .collect();
+        let calls = calls(&text);
         let told = script::run(&text);
         let told: Vec<&str> = told.lines().collect();
         assert_eq!(told.len(), calls.len());
@@ -48,6 +53,21 @@ fn scripts_reach_everything() {
     assert_eq!(refusals, but_ten);
     assert_eq!(answers, ["0", "1", "2", "3"].map(String::from).into());
     assert_eq!(lengths, (1..=32).map(|n| 4 + 4 * n).collect());
+}
+
+/// Logs are often filled by several tries, of which one that is collected
+/// tells neither none of the entries nor all.
+#[test]
+fn scripts_share_logs() {
+    let mut shared = 0;
+    for seed in 0..200 {
+        let mut checker = Checker::new(Engine::blank());
+        for call in calls(&generate::history(seed)) {
+            checker.call(&call).expect("nothing is broken");
+        }
+        shared += checker.shared();
+    }
+    assert!(shared > 300, "{shared}");
 }
 
 #[test]

@@ -13,8 +13,9 @@ fn field(bytes: &[u8]) -> usize {
     usize::from(u16::from_le_bytes([bytes[0], bytes[1]]))
 }
 
-/// Each call that was made: its call byte, then its line but for the index.
-fn calls(file: &[u8], walked: &Walked) -> Vec<[u32; 4]> {
+/// Each call that was made: its call byte, then its line but for the index,
+/// with a 0 where the line has four numbers.
+fn calls(file: &[u8], walked: &Walked) -> Vec<[u32; 5]> {
     let mut calls = Vec::new();
     let mut place = if walked.place == 0 { 0 } else { field(file) };
     for line in walked.lines.lines() {
@@ -23,28 +24,34 @@ fn calls(file: &[u8], walked: &Walked) -> Vec<[u32; 4]> {
         }
         let numbers: Vec<u32> = line.split(' ').map(|word| word.parse().unwrap()).collect();
         let call = u32::from(file[place + 4]);
-        calls.push([call, numbers[1], numbers[2], numbers[3]]);
+        let collected = call == 2 && numbers[1] == 0;
+        assert_eq!(numbers.len(), if collected { 5 } else { 4 }, "{line}");
+        let filled = numbers.get(4).copied().unwrap_or(0);
+        calls.push([call, numbers[1], numbers[2], numbers[3], filled]);
         place += field(&file[place..]);
     }
     calls
 }
 
 /// Each call is accepted, and is refused in each way that calls reach; all
-/// three answers are told, also of tries that helped and of the longest ones.
+/// three answers are told, also of tries that helped, of those that filled
+/// entries in it, and of the longest ones.
 #[test]
 fn calls_reach_everything() {
     let mut refusals = BTreeSet::new();
     let mut answers = BTreeSet::new();
     let mut most_steps = 0;
     let mut helped = 0;
+    let mut filling = 0;
     for seed in 0..FILES {
         let file = file(seed);
-        for [call, refusal, answer, steps] in calls(&file, &walk(&file)) {
+        for [call, refusal, answer, steps, filled] in calls(&file, &walk(&file)) {
             refusals.insert((call, refusal));
             answers.insert(answer);
             most_steps = most_steps.max(steps);
             // Without a sheet to run, a try takes 4 steps at most.
             helped += u32::from(answer == 3 && steps > 4);
+            filling += u32::from(answer == 3 && filled > 0);
         }
     }
     let of = |call: u32, refusals: &[u32]| -> Vec<(u32, u32)> {
@@ -60,6 +67,7 @@ fn calls_reach_everything() {
     assert_eq!(answers, BTreeSet::from([0, 1, 2, 3]));
     assert!(most_steps > 60, "{most_steps}");
     assert!(helped > 200, "{helped}");
+    assert!(filling > 200, "{filling}");
 }
 
 /// Why a setup is refused, or that it is cut short.

@@ -45,19 +45,19 @@ fn refusals_1_3_4_and_11_of_a_worker() {
         begin 4294967288 0 A => 1 0
         step 8 => 1 0 0
         step 256 3 => 1 0 0
-        collect 8 => 1 0 0 0
+        collect 8 => 1 0 0 0 0
         drop 65536 => 1 0
         step 7 => 11 0 0
-        collect 7 => 11 0 0 0
+        collect 7 => 11 0 0 0 0
         drop 7 => 11 0
         begin 7 0 A => 0 0
         begin 7 9 - => 3 0
-        collect 7 => 3 0 0 0
+        collect 7 => 3 0 0 0 0
         step 7 14 => 0 0 14
         begin 7 9 - => 4 0
         step 7 => 4 0 0
-        collect 7 => 0 0 1 14
-        collect 7 => 11 0 0 0
+        collect 7 => 0 0 1 14 2
+        collect 7 => 11 0 0 0 0
         begin 7 0 A => 0 0
         step 7 1000 => 4 0 14
         drop 7 => 0 0
@@ -89,7 +89,7 @@ fn refusals_on_the_blank_state() {
         begin 0 0 - => 2 0
         step 8 => 1 0 0
         step 0 => 11 0 0
-        collect 0 => 11 0 0 0
+        collect 0 => 11 0 0 0 0
         drop 0 => 11 0
         word 0 => 16 0 0 0 0
         lock 0 => 2 0 0 -
@@ -202,9 +202,9 @@ fn refusal_9_of_a_turn() {
         begin 3 0 - => 5 0
         begin 3 0 A => 9 0
         step 1 1000 => 4 0 1
-        collect 1 => 0 0 3 1
+        collect 1 => 0 0 3 1 0
         step 2 1000 => 4 0 1
-        collect 2 => 0 0 3 1"
+        collect 2 => 0 0 3 1 0"
     ));
 }
 

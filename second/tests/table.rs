@@ -11,7 +11,7 @@ fn row_a() {
         "setup S => 0 0
         begin 0 0 A => 0 0
         step 0 1000 => 4 0 14
-        collect 0 => 0 0 1 14
+        collect 0 => 0 0 1 14 2
         word 0 => 0 0 6 1 0
         lock 0 => 0 0 1 -",
     );
@@ -45,7 +45,7 @@ fn row_b() {
         begin 0 0 B => 0 0
         step 0 12 => 0 0 12
         step 0 => 4 0 0
-        collect 0 => 0 0 2 12",
+        collect 0 => 0 0 2 12 2",
     );
 }
 
@@ -60,7 +60,7 @@ fn rows_c_and_d() {
         lock 0 => 0 0 1 0
         begin 1 0 B => 0 0
         step 1 1000 => 4 0 11
-        collect 1 => 0 0 3 11
+        collect 1 => 0 0 3 11 0
         word 0 => 0 0 6 1 0
         lock 0 => 0 0 1 -",
     );
@@ -74,9 +74,9 @@ fn row_e() {
         step 0 10 => 0 0 10
         begin 1 0 B => 0 0
         step 1 1000 => 4 0 11
-        collect 1 => 0 0 3 11
+        collect 1 => 0 0 3 11 0
         step 0 1000 => 4 0 4
-        collect 0 => 0 0 1 14
+        collect 0 => 0 0 1 14 2
         word 0 => 0 0 6 1 0",
     );
 }
@@ -102,7 +102,7 @@ fn row_g() {
         step 1 => 0 0 1
         step 0 => 0 0 1
         step 1 1000 => 4 0 13
-        collect 1 => 0 0 3 14
+        collect 1 => 0 0 3 14 2
         word 0 => 0 0 6 1 0",
     );
 }
@@ -115,9 +115,9 @@ fn row_h() {
         step 0 2 => 0 0 2
         begin 1 0 B => 0 0
         step 1 1000 => 4 0 11
-        collect 1 => 0 0 3 11
+        collect 1 => 0 0 3 11 2
         step 0 1000 => 4 0 12
-        collect 0 => 0 0 1 14
+        collect 0 => 0 0 1 14 0
         word 0 => 0 0 6 1 0",
     );
 }
@@ -164,11 +164,11 @@ fn row_l() {
         begin 1 0 A => 0 0
         step 1 => 0 0 1
         step 0 1000 => 4 0 14
-        collect 0 => 0 0 1 14
+        collect 0 => 0 0 1 14 2
         lock 0 => 0 0 67108864 -
         begin 0 0 A => 9 0
         step 1 1000 => 4 0 3
-        collect 1 => 0 0 3 4
+        collect 1 => 0 0 3 4 0
         setup {last} => 0 0
         begin 0 0 A => 9 0
         setup {above} => 12 11

@@ -26,7 +26,7 @@ use Rattle.tables.specs.Table.{setupS, jobA, ranYes}
 use Rattle.cells.specs.Codes.{atRegister, answerIn, stateIn, workerNumbers}
 use Rattle.cells.specs.Layout.{numbers, unpack, numberAt, runNow, readNow, seenNow, putNumber, putSizes, blanked}
 use Rattle.cells.specs.Pieces.{tab, piecesOf, putPiece}
-use Rattle.lent_moves.specs.Moves.{steppedTo, toGrab, toLookAgain, toReadMark, cleared, started, passed, went, toMark, holding, logged, loaded, toSwap, finished}
+use Rattle.lent_moves.specs.Moves.{steppedTo, toGrab, toLookAgain, toReadMark, cleared, started, passed, went, toMark, holding, logged, loaded, toSwap, finished, counted}
 use Rattle.lent_moves.specs.Looks.{instrNow}
 use Rattle.lent_step.specs.Points.{looked, lookNumbers, grabNumbers, lookAgainNumbers, startedOwn, startedSeen, markRead, readMarkNumbers, firstNumbers, readNumbers, followNumbers, entryFilled, committed, commitNumbers, swapNumbers, markNumbers, releaseNumbers, onwardNumbers, stepNumbers}
 use Rattle.lent_in.specs.Laid.{putAll}
@@ -60,14 +60,14 @@ record RowA (s : List ℕ) : Type 0 where
   before : collectReply (lentAll s (Begin 0 0 jobA ∷ steps 13 0)) 0 ≡ refusedBy 3
   told :
       collectReply (lentAll s (Begin 0 0 jobA ∷ steps 14 0)) 0 ≡
-      record { number = 0; place = 0; answer = ranYes; steps = 14 }
+      record { number = 0; place = 0; answer = ranYes; steps = 14; filled = 2 }
   left : LentStands (lentAll s (Begin 0 0 jobA ∷ steps 14 0)) 6 1 1 0 0
 
 computed : RowA (filledNumbers zeros setupS)
-unfolding wordsFrom wordOf lay parts.grabOf parts.releaseOf parts.holdsOf parts.swapOf registerOf wornOf answerNumber refusalNumber refusalPlace u32sOf badlyFormed codeTold instrTold instrsOf jobTold straysAt guardsTold setupTold turnsTold anyOf inUseOf lowestOf helpedOf try.answerOf worker.beganOf worker.beginByState worker.collectByState worker.stepByState beginTold collectOf readLockOf readWordOf setupS jobA answerIn stateIn workerNumbers unpack putSizes tab piecesOf putPiece numberAt putNumber runNow readNow seenNow atRegister steppedTo toGrab toLookAgain toReadMark cleared started passed went toMark holding logged loaded toSwap finished instrNow looked lookNumbers grabNumbers lookAgainNumbers startedOwn startedSeen markRead readMarkNumbers firstNumbers readNumbers followNumbers entryFilled committed commitNumbers swapNumbers markNumbers releaseNumbers onwardNumbers stepNumbers putAll filledNumbers copiedNumbers begunNumbers beginNumbers lentAll lentAfter zeros refusalReply
+unfolding wordsFrom wordOf lay parts.grabOf parts.releaseOf parts.holdsOf parts.swapOf registerOf wornOf answerNumber refusalNumber refusalPlace u32sOf badlyFormed codeTold instrTold instrsOf jobTold straysAt guardsTold setupTold turnsTold anyOf inUseOf lowestOf helpedOf try.answerOf worker.beganOf worker.beginByState worker.collectByState worker.stepByState beginTold collectOf readLockOf readWordOf setupS jobA answerIn stateIn workerNumbers unpack putSizes tab piecesOf putPiece numberAt putNumber runNow readNow seenNow atRegister steppedTo toGrab toLookAgain toReadMark cleared started passed went toMark holding logged loaded toSwap finished counted instrNow looked lookNumbers grabNumbers lookAgainNumbers startedOwn startedSeen markRead readMarkNumbers firstNumbers readNumbers followNumbers entryFilled committed commitNumbers swapNumbers markNumbers releaseNumbers onwardNumbers stepNumbers putAll filledNumbers copiedNumbers begunNumbers beginNumbers lentAll lentAfter zeros refusalReply
 computed = record { before = refl; told = refl; left = record { word = refl; lock = refl } }
 
-pub row-a : LentEnds (Begin 0 0 jobA ∷ []) 0 (record { more = 14; answer = ranYes; steps = 14; value = 6; count = 1; turn = 1 })
+pub row-a : LentEnds (Begin 0 0 jobA ∷ []) 0 (record { more = 14; answer = ranYes; steps = 14; filled = 2; value = 6; count = 1; turn = 1 })
 row-a =
     let r : RowA (setupLeft zeros setupS) = subst (λ (s : List ℕ). RowA s) (sym after-setup) computed in
     record { before = r .before; told = r .told; left = r .left }

@@ -64,9 +64,12 @@ unfolding fresh afterAll past
 begun = premises-met .begun
 
 -- in the fields of the C interface
-answered : (t : CollectTold) (answer steps : ℕ) → Answers t answer steps → collectedFields t ≡ record { number = 0; place = 0; answer = answer; steps = steps }
-answered (CollectTold.Answered x n) answer steps (p, q) = λ i. record { number = 0; place = 0; answer = p i; steps = q i }
-answered (CollectTold.Refused r) answer steps h = absurd h
+answered :
+    (t : CollectTold) (answer steps filled : ℕ) → Answers t answer steps filled →
+    collectedFields t ≡ record { number = 0; place = 0; answer = answer; steps = steps; filled = filled }
+answered (CollectTold.Answered x n m) answer steps filled h =
+    λ i. record { number = 0; place = 0; answer = h .0 i; steps = h .1 i; filled = h .2 i }
+answered (CollectTold.Refused r) answer steps filled h = absurd h
 
 under-way : (t : CollectTold) → t ≡ CollectTold.Refused WorkerUnderWay → collectedFields t ≡ refusedBy 3
 unfolding refusalReply refusalNumber refusalPlace
@@ -107,7 +110,7 @@ ends calls w end b h =
     let last = both-records calls (steps (end .more) w) b (steps-records (end .more) w) in
     record {
       before = tells-on (calls ++ steps (end .more - 1) w) before .collect w ∙ under-way _ (h .before);
-      told = tells-on (calls ++ steps (end .more) w) last .collect w ∙ answered (collectOf (on (calls ++ steps (end .more) w)) w .told) (end .answer) (end .steps) (h .told);
+      told = tells-on (calls ++ steps (end .more) w) last .collect w ∙ answered (collectOf (on (calls ++ steps (end .more) w)) w .told) (end .answer) (end .steps) (end .filled) (h .told);
       left = free-stands (calls ++ steps (end .more) w) (end .value) (end .count) (end .turn) last (h .left);
     }
 

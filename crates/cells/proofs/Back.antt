@@ -110,10 +110,11 @@ record Common (l : List ℕ) (k : Worker) : Type 0 where
   lock : getD l 1 0 ≡ k .lock
   own : getD l 2 0 ≡ k .own
   steps : getD l 3 0 ≡ k .steps
+  filled : getD l 15 0 ≡ k .filled
   long : length l ≡ workerUsed
 
 run-common : (k : Worker) (tag : ℕ) (r : Run) (value count new : ℕ) → Common (runNumbers k tag r value count new) k
-run-common k tag r value count new = record { lock = refl; own = refl; steps = refl; long = refl }
+run-common k tag r value count new = record { lock = refl; own = refl; steps = refl; filled = refl; long = refl }
 
 point-common : (p : Point) (k : Worker) → Common (pointNumbers p k) k
 point-common Look k = run-common k _ _ _ _ _
@@ -152,4 +153,5 @@ worker-back k o f =
       lock = (ap byteOf (c .lock) ∙ byte-back (k .lock) (o .lock)) t;
       own = (ap byteOf (c .own) ∙ byte-back (k .own) (o .own)) t;
       steps = c .steps t;
+      filled = c .filled t;
     }

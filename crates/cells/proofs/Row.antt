@@ -17,7 +17,7 @@ use Rattle.steps.specs.Worker.{worker0}
 use Rattle.steps.specs.declared.Worker.{Worker}
 use Rattle.engine.specs.State.{workerAt, withWorker}
 use Rattle.engine.specs.declared.Engine.{Engine}
-use Rattle.cells.specs.Codes.{byteOf, atTag, atLock, atOwn, atSteps, atRegister, stateIn, workerIn}
+use Rattle.cells.specs.Codes.{byteOf, atTag, atLock, atOwn, atSteps, atFilled, atRegister, stateIn, workerIn}
 use Rattle.cells.specs.Layout.{numbers, workerUsed, workerPart, lockPart, wordPart, sheetPart, instrPart, entryPart, unpack, rowOf, numberAt, runNow, putNumber, putIdle}
 use Rattle.cells.specs.Pieces.{reads, placeOf, piecesOf}
 use Rattle.cells.proofs.Back.{length-entry, length-worker}
@@ -129,6 +129,10 @@ pub worker-is : (s : List ℕ) (w : ℕ) → w < workers → workerAt (unpack s)
 unfolding unpack
 worker-is s w b = pieces-get workerPart s w worker0 b
 
+-- a worker put over itself
+pub worker-over : (e d : Engine) (w : ℕ) (k n : Worker) → d ≡ withWorker e w k → withWorker d w n ≡ withWorker e w n
+worker-over e d w k n q = simp (q, set-set)
+
 -- Numbers of worker w written one after the other over s, which is t now: the row l that stands there, and the whole state.
 pub record Row (s t : List ℕ) (w : ℕ) (l : List ℕ) : Type 0 where
   pub row : rowOf t w ≡ l
@@ -163,12 +167,9 @@ module _ (s : List ℕ) (w : ℕ) (h : numbers ≤ length s) (b : w < workers) w
         row = row-number t w j x n b u ∙ q;
         state =
             unpack-number t w j x n b u ∙ ap (λ (y : List ℕ). withWorker (unpack t) w (workerIn y)) q ∙
-            over (unpack s) (unpack t) (workerIn l) (workerIn (set l j x)) (r .state);
+            worker-over (unpack s) (unpack t) w (workerIn l) (workerIn (set l j x)) (r .state);
         size = length-set t (placeOf workerPart w + j) x ∙ r .size;
       }
-    where
-      over : (e d : Engine) (k n : Worker) → d ≡ withWorker e w k → withWorker d w n ≡ withWorker e w n
-      over e d k n q = simp (q, set-set)
 
 -- worker w idle
 pub unpack-idle : (s : List ℕ) (w : ℕ) → numbers ≤ length s → w < workers → Says s (putIdle s w) (withWorker (unpack s) w worker0)
@@ -179,7 +180,8 @@ unpack-idle s w h b =
     let r₂ = put _ _ atLock 0 (omega arith) r₁ in
     let r₃ = put _ _ atOwn 0 (omega arith) r₂ in
     let r₄ = put _ _ atSteps 0 (omega arith) r₃ in
-    (r₄ .state, r₄ .size)
+    let r₅ = put _ _ atFilled 0 (omega arith) r₄ in
+    (r₅ .state, r₅ .size)
 
 -- register i, read
 pub register-read : (s : List ℕ) (w i j r : ℕ) → j ≡ atRegister i → r ≡ numberAt s w j → r ≡ registerOf (runNow s w .registers) i

@@ -109,10 +109,10 @@ releaseTag = 9
 abbrev pub finishedTag : ℕ
 finishedTag = 10
 
--- Which of a worker's 15 numbers is which: the tag, the lock, the own sheet, the accepted steps; the sheet of a run (before it, the
+-- Which of a worker's 16 numbers is which: the tag, the lock, the own sheet, the accepted steps; the sheet of a run (before it, the
 -- holder that Look again saw); a turn, at Grab the one that Look saw, later the one under which the sheet won; the run's next
 -- instruction, log place and four registers; a value and a count read (before a run, the turn that Look again saw); the word's new value
--- (or what a halt said, or the answer)
+-- (or what a halt said, or the answer); the entries that the worker was first to fill
 abbrev pub atTag : ℕ
 atTag = 0
 
@@ -149,6 +149,9 @@ atCount = 13
 
 abbrev pub atNew : ℕ
 atNew = 14
+
+abbrev pub atFilled : ℕ
+atFilled = 15
 
 abbrev pub registersIn : List ℕ → Registers
 registersIn l = record { r0 = getD l 8 0; r1 = getD l 9 0; r2 = getD l 10 0; r3 = getD l 11 0 }
@@ -196,12 +199,13 @@ workerIn l =
       lock = byteOf (getD l atLock 0);
       own = byteOf (getD l atOwn 0);
       steps = getD l atSteps 0;
+      filled = getD l atFilled 0;
     }
 
 abbrev pub runNumbers : Worker → ℕ → Run → ℕ → ℕ → ℕ → List ℕ
 runNumbers k tag r value count new =
     tag ∷ k .lock ∷ k .own ∷ k .steps ∷ r .sheet ∷ r .won ∷ r .next ∷ r .place ∷ r .registers .r0 ∷ r .registers .r1 ∷
-    r .registers .r2 ∷ r .registers .r3 ∷ value ∷ count ∷ new ∷ []
+    r .registers .r2 ∷ r .registers .r3 ∷ value ∷ count ∷ new ∷ k .filled ∷ []
 
 -- of a worker that is in no run
 abbrev pub seenNumbers : Worker → ℕ → ℕ → ℕ → ℕ → ℕ → List ℕ

@@ -3,7 +3,7 @@ mod Names
 use Names.*
 use Rattle.parts.specs.Lay.{lay}
 use Rattle.parts.specs.Numbers.{workers, mostLocks, mostWords, sheets, entries}
-use Rattle.cells.specs.Codes.{byteOf, atTag, atLock, atOwn, atSteps, idleTag, runIn, readingIn, seenIn, workerIn, workerNumbers, lockIn, lockNumbers, wordIn, wordNumbers, sheetIn, sheetNumbers, instrIn, instrNumbers, entryIn, entryNumbers}
+use Rattle.cells.specs.Codes.{byteOf, atTag, atLock, atOwn, atSteps, atFilled, idleTag, runIn, readingIn, seenIn, workerIn, workerNumbers, lockIn, lockNumbers, wordIn, wordNumbers, sheetIn, sheetNumbers, instrIn, instrNumbers, entryIn, entryNumbers}
 use Rattle.cells.specs.Pieces.{Part, reads, placeOf, piecesOf, putPiece}
 
 -- from one piece to the next; the head has L and W
@@ -53,7 +53,7 @@ numbers = entryBase + entries * entryWidth
 
 -- how many numbers of a worker are used
 abbrev pub workerUsed : ℕ
-workerUsed = 15
+workerUsed = 16
 
 abbrev pub workerPart : Part Worker
 workerPart =
@@ -128,9 +128,10 @@ seenNow s w = seenIn (rowOf s w)
 unfoldable pub putNumber : List ℕ → ℕ → ℕ → ℕ → List ℕ
 putNumber s w j x = set s (placeOf workerPart w + j) x
 
--- worker w idle: no lock, no own sheet, no steps; the numbers of its run stay, and say nothing
+-- worker w idle: no lock, no own sheet, no steps, no entries filled; the numbers of its run stay, and say nothing
 unfoldable pub putIdle : List ℕ → ℕ → List ℕ
-putIdle s w = putNumber (putNumber (putNumber (putNumber s w atTag idleTag) w atLock 0) w atOwn 0) w atSteps 0
+putIdle s w =
+    putNumber (putNumber (putNumber (putNumber (putNumber s w atTag idleTag) w atLock 0) w atOwn 0) w atSteps 0) w atFilled 0
 
 unfoldable pub putSizes : List ℕ → ℕ → ℕ → List ℕ
 putSizes s l w = lay 0 (l ∷ w ∷ []) s

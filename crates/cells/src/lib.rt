@@ -14,6 +14,7 @@ ghost use Rattle.cells.specs.State.{withSizes, withLock, withWord, withS
 pub mod codes;
 pub mod worker;
 
+use crate::worker::FILLED;
 use crate::worker::IDLE;
 use crate::worker::LOCK;
 use crate::worker::OWN;
@@ -157,6 +158,7 @@ pub fn put_idle(s: &mut [u32], w: usize)
     put_number(s, w, LOCK, 0);
     put_number(s, w, OWN, 0);
     put_number(s, w, STEPS, 0);
+    put_number(s, w, FILLED, 0);
 }
 
 // Register i of worker w's run.

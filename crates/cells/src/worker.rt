@@ -1,4 +1,4 @@
-// A worker's 15 numbers, named as in specs/Codes.antt.
+// A worker's 16 numbers, named as in specs/Codes.antt.
 ghost use mathlib.Core.Path.{_≡_};
 ghost use Prim.Native.Nat.{_+_, _≤_, _<_};
 ghost use lib.ListN.{length};
@@ -16,7 +16,7 @@ use steps::State;
 use steps::Worker;
 
 // How many numbers of a worker are used.
-pub const WORKER_USED: usize = 15;
+pub const WORKER_USED: usize = 16;
 
 // Which is which; the four registers stand between PLACE and VALUE.
 pub const TAG: usize = 0;
@@ -40,6 +40,8 @@ pub const VALUE: usize = 12;
 pub const COUNT: usize = 13;
 
 pub const NEW: usize = 14;
+
+pub const FILLED: usize = 15;
 
 // The tags.
 pub const IDLE: u32 = 0;
@@ -157,6 +159,7 @@ pub fn worker_at(s: &[u32], at: usize) -> Worker
         lock: lock,
         own: own,
         steps: s[at + STEPS],
+        filled: s[at + FILLED],
     }
 }
 
@@ -187,6 +190,7 @@ pub fn run_numbers(
         value,
         count,
         new,
+        k.filled,
     ]
 }
 
@@ -217,6 +221,7 @@ pub fn seen_numbers(
         value,
         0,
         new,
+        k.filled,
     ]
 }
 

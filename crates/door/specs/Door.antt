@@ -23,10 +23,11 @@ toldFields (Told.Refused r) = refusalReply r
 
 -- where the call was refused so, there is nothing else to tell
 abbrev pub noAnswer : Reply → Collected
-noAnswer r = record { number = r .number; place = r .place; answer = 0; steps = 0 }
+noAnswer r = record { number = r .number; place = r .place; answer = 0; steps = 0; filled = 0 }
 
 abbrev pub collectedFields : CollectTold → Collected
-collectedFields (CollectTold.Answered x n) = record { number = 0; place = 0; answer = answerNumber x; steps = n }
+collectedFields (CollectTold.Answered x n m) =
+    record { number = 0; place = 0; answer = answerNumber x; steps = n; filled = m }
 collectedFields (CollectTold.Refused r) = noAnswer (refusalReply r)
 
 abbrev pub noWord : Reply → WordRead

@@ -23,6 +23,7 @@ pub struct Collected {
     pub place: u32,
     pub answer: u32,
     pub steps: u32,
+    pub filled: u32,
 }
 
 #[repr(C)]
@@ -92,7 +93,7 @@ pub extern "C" fn chant_step(state: &mut [u32], worker: u32) -> Reply
     replies::reply(told)
 }
 
-// The answer of a finished worker and its steps; the worker is idle. Refused: 22, 1, 11, 3.
+// The answer of a finished worker, its steps and the entries that it was first to fill; the worker is idle. Refused: 22, 1, 11, 3.
 #[no_mangle]
 pub extern "C" fn chant_collect(state: &mut [u32], worker: u32) -> Collected
     ensures { λ r. ⌜ r ≡ collectReply (now (state .entry)) worker ⌝ }

@@ -56,6 +56,7 @@ pub fn no_answer(r: Reply) -> Collected
         place: r.place,
         answer: 0,
         steps: 0,
+        filled: 0,
     }
 }
 
@@ -63,11 +64,12 @@ pub fn collected(told: CollectTold) -> Collected
     ensures { λ r. ⌜ r ≡ collectedFields told ⌝ }
 {
     match told {
-        CollectTold::Answered(answer, steps) => Collected {
+        CollectTold::Answered(answer, steps, filled) => Collected {
             number: 0,
             place: 0,
             answer: answer.number(),
             steps: steps,
+            filled: filled,
         },
         CollectTold::Refused(r) => no_answer(refusal_reply(r)),
     }

@@ -66,7 +66,7 @@ pub collected :
     workerAt e w .state ≡ Finished x →
     k ≡ collectedOf (workerAt e w) →
     next ≡ withWorker e w k →
-    record { engine = next; told = CollectTold.Answered x (workerAt e w .steps) } ≡ collectOf e w
+    record { engine = next; told = CollectTold.Answered x (workerAt e w .steps) (workerAt e w .filled) } ≡ collectOf e w
 unfolding collectOf collectByState
 collected e next w k x h s q n = simp (lt-leb workers w h, s, n, q)
 

@@ -81,7 +81,7 @@ unfoldable pub stepOf : Engine → ℕ → Outcome
 stepOf e w = outcomeOf e (stepTold e w) (onwardOf e w)
 
 -- "Collect: 1, 11, 3." "Collect (worker) hands out the answer and the number of accepted steps since begin, and makes the worker
--- idle."
+-- idle." Request 02: "Collect then reports a third number"
 abbrev pub collectOrder : Engine → ℕ → List Told
 collectOrder e w = refuseIf (leb workers w) NoWorker ∷ collectByState (workerAt e w) ∷ []
 
@@ -97,7 +97,7 @@ collectOf e w =
     onTold (collectTold e w)
     (record {
       engine = withWorker e w (collectedOf (workerAt e w));
-      told = CollectTold.Answered (lastAnswer (workerAt e w)) (workerAt e w .steps);
+      told = CollectTold.Answered (lastAnswer (workerAt e w)) (workerAt e w .steps) (workerAt e w .filled);
     })
     (λ r. record { engine = e; told = CollectTold.Refused r })
 

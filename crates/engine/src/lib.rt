@@ -65,8 +65,8 @@ pub struct Outcome {
 }
 
 pub enum CollectTold {
-    // The answer, and the accepted steps since begin.
-    Answered(Answer, u32),
+    // The answer, the accepted steps since begin, and the log entries that the worker was first to fill.
+    Answered(Answer, u32, u32),
     Refused(Refusal),
 }
 
@@ -157,6 +157,7 @@ impl Engine {
                 lock: 0,
                 own: 0,
                 steps: 0,
+                filled: 0,
             }; WORKERS],
         }
     }

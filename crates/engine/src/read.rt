@@ -64,7 +64,7 @@ impl Engine {
             },
             State::Finished(answer) => Collected {
                 engine: self.with_worker(i, k.collect()),
-                told: CollectTold::Answered(answer, k.steps),
+                told: CollectTold::Answered(answer, k.steps, k.filled),
             },
         }
     }

@@ -35,7 +35,7 @@ use Rattle.calls.proofs.Items.{at-record, at-refused, no-end}
 use Rattle.calls.proofs.Laws.{holds}
 use Rattle.text.specs.Text.{newline, Puts, decimalOf}
 use Rattle.text.proofs.Written.{puts-both, puts-same}
-use Rattle.files.specs.File.{refusedLine, callLine, Walked, _before_, walkFrom, lineText, linesText, numberLine, setupText, setupState, mostFile, noSetup, printedOf, replayedState, mostText}
+use Rattle.files.specs.File.{refusedLine, callLine, Walked, _before_, walkFrom, mostLine, lineText, linesText, numberLine, setupText, setupState, mostFile, noSetup, printedOf, replayedState, mostText}
 use Rattle.files.specs.Made.{madeOf}
 use Rattle.files.specs.declared.make.Line.{Line}
 use Rattle.files.specs.declared.make.Made.{Made}
@@ -80,7 +80,7 @@ pub record Left (file all out₀ : List ℕ) (last e : Engine) (place index at :
   pub laid : lay 0 all out₀ ≡ lay at (linesText index (walkFrom zero e (drop place file) .lines)) out
   pub count : length all ≡ at + length (linesText index (walkFrom zero e (drop place file) .lines))
   pub state : last ≡ walkFrom zero e (drop place file) .engine
-  pub room : at ≤ 84 * index
+  pub room : at ≤ mostLine * index
   pub passed : 8 * index ≤ place
   pub within : (place ≤ length file) × (length file ≤ mostFile)
   pub size : mostText ≤ length out
@@ -111,7 +111,7 @@ module _ (file all out₀ out : List ℕ) (last e : Engine) (place index at : �
       sym (l .state ∙ ap (λ (v : Walked). v .engine) (walk-end e (drop place file) (drop-of-length-le file h)))
 
   module _ (k : place < length file) where
-    pub line-room : at + 84 ≤ length out
+    pub line-room : at + mostLine ≤ length out
     line-room = omega (arith, l .room, l .passed, l .within .1, l .size)
 
     left-index : index < 8192
@@ -133,7 +133,7 @@ module _ (file all out₀ out : List ℕ) (last e : Engine) (place index at : �
       -- the last line
       pub left-refused :
           (i : Item) (r : Refusal) (line : Line) (next : ℕ) (out′ : List ℕ) → i ≡ h .item → i ≡ Item.Refused r → line ≡ refusedLine r →
-          Puts at 84 (lineText index line) out out′ next → Puts 0 mostText all out₀ out′ next
+          Puts at mostLine (lineText index line) out out′ next → Puts 0 mostText all out₀ out′ next
       unfolding linesText lay
       left-refused i r line next out′ p f g u =
           let t = at-refused file place (h .item) k item-is r (sym p ∙ f) in
@@ -191,7 +191,7 @@ module _ (file all out₀ out : List ℕ) (last e : Engine) (place index at : �
               simp (made-is, drop-drop, next-is)
 
           pub left-record :
-              (next : ℕ) (out′ : List ℕ) → Puts at 84 (lineText index (m .line)) out out′ next →
+              (next : ℕ) (out′ : List ℕ) → Puts at mostLine (lineText index (m .line)) out out′ next →
               Left file all out₀ last (m .engine) (h .place) (index + 1) next out′
           unfolding linesText
           left-record next out′ u =

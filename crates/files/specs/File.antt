@@ -1,6 +1,7 @@
 -- Request 01: "A file is one setup record, as long as its length field says, then call records. It is walked by a reader that holds the
 -- recorded bytes and its place; a program over it prints, for each call, its index from 0, the refusal number (0 if accepted) and, for
--- collect, answer and steps (0 and 0 otherwise), in decimal with single spaces, a line each."
+-- collect, answer and steps (0 and 0 otherwise), in decimal with single spaces, a line each." Request 02: "Req 01's line for an
+-- accepted collect gains it at its end", the number of entries that the worker was first to fill.
 mod Names
 use Names.*
 use Rattle.parts.specs.Pick.{pick, _or_}
@@ -10,21 +11,21 @@ use Rattle.engine.specs.Calls.{setupOf, beginOf, stepOf, collectOf, dropOf}
 use Rattle.engine.specs.State.{blankOf}
 use Rattle.past.specs.Past.{Call, Begin, Step, Collect, Drop, ReadWord, ReadLock, Show, Park, after}
 use Rattle.calls.specs.Record.{recordTold, callIn}
-use Rattle.text.specs.Text.{newline, decimalOf, numberText, pairText}
+use Rattle.text.specs.Text.{newline, decimalOf, numberText, threeText}
 
 infixr 20 _before_
 -- "the refusal number (0 if accepted) and, for collect, answer and steps (0 and 0 otherwise)"
 abbrev pub refusedLine : Refusal → Line
-refusedLine r = record { number = refusalNumber r; answer = 0; steps = 0 }
+refusedLine r = Number (refusalNumber r)
 
 abbrev pub acceptedLine : Line
-acceptedLine = record { number = 0; answer = 0; steps = 0 }
+acceptedLine = Number 0
 
 abbrev pub toldLine : Told → Line
 toldLine told = onTold told acceptedLine refusedLine
 
 abbrev pub collectLine : CollectTold → Line
-collectLine (CollectTold.Answered answer steps) = record { number = 0; answer = answerNumber answer; steps = steps }
+collectLine (CollectTold.Answered answer steps filled) = Answer (answerNumber answer) steps filled
 collectLine (CollectTold.Refused r) = refusedLine r
 
 -- what is told of a call made on state e; those that read or write are in no file, and any line will do
@@ -56,9 +57,13 @@ walkFrom zero e (b ∷ s) =
     (callLine e (callIn (b ∷ s)) before walkFrom (lengthField (b ∷ s) - 1) (after e (callIn (b ∷ s))) s)
     (λ r. record { lines = refusedLine r ∷ []; engine = e })
 
--- "in decimal with single spaces, a line each"
+-- "in decimal with single spaces, a line each": what is told after the index, and the line
+unfoldable pub toldOf : Line → List ℕ
+toldOf (Number number) = threeText number 0 0
+toldOf (Answer answer steps filled) = numberText 0 ++ threeText answer steps filled
+
 abbrev pub lineText : ℕ → Line → List ℕ
-lineText index line = (decimalOf index ++ numberText (line .number)) ++ (pairText (line .answer) (line .steps) ++ (newline ∷ []))
+lineText index line = decimalOf index ++ (toldOf line ++ (newline ∷ []))
 
 -- of which the first has this index
 unfoldable pub linesText : ℕ → List Line → List ℕ
@@ -95,7 +100,10 @@ printedOf file = pick (noSetup file) (numberLine Length) (setupText file (length
 unfoldable pub replayedState : List ℕ → Engine
 replayedState file = pick (noSetup file) blankOf (setupState file (lengthField file))
 
--- the most bytes of a text. A line takes at most 84: four numbers of at most 20 digits, three spaces and its end; and a file has fewer
--- than 8,192 records that are accepted, of at least 8 bytes each, and at most one that is refused
+-- the most bytes of a line, five numbers of at most 20 digits, four spaces and its end; and of a text: a file has fewer than 8,192
+-- records that are accepted, of at least 8 bytes each, and at most one that is refused
+abbrev pub mostLine : ℕ
+mostLine = 105
+
 abbrev pub mostText : ℕ
-mostText = 84 * 8192
+mostText = mostLine * 8192

@@ -13,11 +13,11 @@ use engine::Outcome;
 use parts::Refusal;
 use parts::Told;
 
-// "the refusal number (0 if accepted) and, for collect, answer and steps (0 and 0 otherwise)"
-pub struct Line {
-    pub number: u32,
-    pub answer: u32,
-    pub steps: u32,
+// What a line says after its index: the refusal number (0 if accepted), or the answer, the steps and the entries filled of a
+// collect that is accepted.
+pub enum Line {
+    Number(u32),
+    Answer(u32, u32, u32),
 }
 
 // What a call gives: the next state, and its line.
@@ -29,22 +29,14 @@ pub struct Made {
 pub fn refused_line(r: Refusal) -> Line
     ensures { λ q. ⌜ q ≡ refusedLine r ⌝ }
 {
-    Line {
-        number: r.number(),
-        answer: 0,
-        steps: 0,
-    }
+    Line::Number(r.number())
 }
 
 fn told_line(told: Told) -> Line
     ensures { λ r. ⌜ r ≡ toldLine told ⌝ }
 {
     match told {
-        Told::Accepted => Line {
-            number: 0,
-            answer: 0,
-            steps: 0,
-        },
+        Told::Accepted => Line::Number(0),
         Told::Refused(r) => refused_line(r),
     }
 }
@@ -53,11 +45,9 @@ fn collect_line(told: CollectTold) -> Line
     ensures { λ r. ⌜ r ≡ collectLine told ⌝ }
 {
     match told {
-        CollectTold::Answered(answer, steps) => Line {
-            number: 0,
-            answer: answer.number(),
-            steps,
-        },
+        CollectTold::Answered(answer, steps, filled) => {
+            Line::Answer(answer.number(), steps, filled)
+        }
         CollectTold::Refused(r) => refused_line(r),
     }
 }

@@ -3,8 +3,8 @@ ghost use mathlib.Core.Path.{_≡_};
 ghost use Prim.Native.Nat.{_+_, _≤_};
 ghost use mathlib.Core.List.{[], _∷_, _++_};
 ghost use lib.ListN.{length, drop};
-ghost use Rattle.text.specs.Text.{Puts, newline, decimalOf, numberText, pairText};
-ghost use Rattle.files.specs.File.{mostFile, walkFrom, lineText, linesText, numberLine, noSetup, setupText, setupState, printedOf, replayedState, mostText};
+ghost use Rattle.text.specs.Text.{Puts, newline, numberText, threeText};
+ghost use Rattle.files.specs.File.{mostFile, walkFrom, toldOf, mostLine, lineText, linesText, numberLine, noSetup, setupText, setupState, printedOf, replayedState, mostText};
 ghost use Rattle.engine.specs.State.{blankOf};
 use crate::make::Line;
 use crate::make::make;
@@ -15,30 +15,41 @@ use engine::Engine;
 use parts::Refusal;
 use parts::Told;
 
-// A line's index and its refusal number.
-fn put_start(out: &mut [u8], at: usize, index: u32, number: u32) -> usize
-    requires { ⌜ at + 41 ≤ length (now out) ⌝ }
-    ensures { λ r. ⌜ Puts at 41 (decimalOf index ++ numberText number) (now (out .entry)) (now (out .exit)) r ⌝ }
+// An accepted collect's 0 and its three numbers.
+fn put_answer(out: &mut [u8], at: usize, answer: u32, steps: u32, filled: u32) -> usize
+    requires { ⌜ at + 84 ≤ length (now out) ⌝ }
+    ensures { λ r. ⌜ Puts at 84 (numberText 0 ++ threeText answer steps filled) (now (out .entry)) (now (out .exit)) r ⌝ }
 {
-    let next = text::put_decimal(out, at, index as u64);
-    text::put_number(out, next, number as u64)
+    let next = text::put_number(out, at, 0);
+    text::put_three(out, next, answer as u64, steps as u64, filled as u64)
 }
 
-// Its answer and steps, and its end.
-fn put_end(out: &mut [u8], at: usize, answer: u32, steps: u32) -> usize
-    requires { ⌜ at + 43 ≤ length (now out) ⌝ }
-    ensures { λ r. ⌜ Puts at 43 (pairText answer steps ++ (newline ∷ [])) (now (out .entry)) (now (out .exit)) r ⌝ }
+// What a line says after its index.
+fn put_told(out: &mut [u8], at: usize, line: Line) -> usize
+    requires { ⌜ at + 84 ≤ length (now out) ⌝ }
+    ensures { λ r. ⌜ Puts at 84 (toldOf line) (now (out .entry)) (now (out .exit)) r ⌝ }
 {
-    let next = text::put_pair(out, at, answer as u64, steps as u64);
+    match line {
+        Line::Number(number) => text::put_three(out, at, number as u64, 0, 0),
+        Line::Answer(answer, steps, filled) => put_answer(out, at, answer, steps, filled),
+    }
+}
+
+// The same, and the line's end.
+fn put_end(out: &mut [u8], at: usize, line: Line) -> usize
+    requires { ⌜ at + 85 ≤ length (now out) ⌝ }
+    ensures { λ r. ⌜ Puts at 85 (toldOf line ++ (newline ∷ [])) (now (out .entry)) (now (out .exit)) r ⌝ }
+{
+    let next = put_told(out, at, line);
     text::put(out, next, 10)
 }
 
 fn put_line(out: &mut [u8], at: usize, index: u32, line: Line) -> usize
-    requires { ⌜ at + 84 ≤ length (now out) ⌝ }
-    ensures { λ r. ⌜ Puts at 84 (lineText index line) (now (out .entry)) (now (out .exit)) r ⌝ }
+    requires { ⌜ at + mostLine ≤ length (now out) ⌝ }
+    ensures { λ r. ⌜ Puts at mostLine (lineText index line) (now (out .entry)) (now (out .exit)) r ⌝ }
 {
-    let next = put_start(out, at, index, line.number);
-    put_end(out, next, line.answer, line.steps)
+    let next = text::put_decimal(out, at, index as u64);
+    put_end(out, next, line)
 }
 
 // What a walk leaves: the state after its last call, and how many bytes of text were put.
@@ -68,7 +79,8 @@ fn walk(file: &[u8], from: usize, start: Engine, out: &mut [u8]) -> Replayed
             }
             Item::Record(here, _) => {
                 let made = make(engine, &file[here..]);
-                at = put_line(out, at, index, made.line);
+                let line = made.line;
+                at = put_line(out, at, index, line);
                 engine = made.engine;
                 place = handed.place;
                 index += 1;
@@ -129,7 +141,7 @@ fn on_setup(file: &[u8], n: usize, out: &mut [u8]) -> Replayed
 }
 
 // What the program `replay` prints of a file, at the front of the buffer, and the state that the file's calls leave.
-pub fn replay(file: &[u8], out: &mut [u8; 688128]) -> Replayed
+pub fn replay(file: &[u8], out: &mut [u8; 860160]) -> Replayed
     ensures { λ r. ⌜ Puts 0 mostText (printedOf (now (file .entry))) (now (out .entry)) (now (out .exit)) (r .length) ⌝ }
     ensures { λ r. ⌜ r .engine ≡ replayedState (now (file .entry)) ⌝ }
 {

@@ -1,5 +1,5 @@
 -- The machine of the theory: the engine of document 01 with any number of workers, locks, words and sheets, of which nothing has
--- an end: no array, no remainder, no wrap. A worker, its point and its run are the engine's own.
+-- an end: no array, no remainder, no wrap. A worker, its point and its run are the engine's own; what it filled is not counted here.
 use Prim.Native.Nat.{ℕ, suc, _+_}
 use mathlib.Core.Path.{_≡_}
 use mathlib.Core.Logic.{_≢_}
@@ -187,7 +187,7 @@ paceOf code x r (Release said) = record { shared = x; run = r; stage = Release s
 
 -- one accepted step more
 abbrev pub machineMoved : Worker → State → Worker
-machineMoved k s = record { state = s; lock = k .lock; own = k .own; steps = suc (k .steps) }
+machineMoved k s = record { state = s; lock = k .lock; own = k .own; steps = suc (k .steps); filled = 0 }
 
 -- "2. Grab", "7. Release"
 unfoldable pub machineGrab : LockWord → ℕ → ℕ → LockWord

@@ -2,3 +2,4 @@ pub mod map
 pub mod rules
 pub mod simulation
 pub mod demand
+pub mod filled

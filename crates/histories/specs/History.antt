@@ -9,16 +9,21 @@ use Rattle.alone.specs.Alone.{aloneOf}
 use Rattle.alone.specs.Jobs.{Try, givesOf, times, partOf}
 use Rattle.engine.specs.State.{sheet0, lockCount, wordCount, workerAt, lockAt, wordAt, wordsOf, baseOf, programLength, programOf}
 use Rattle.engine.specs.Calls.{setupOf, beginOf, stepOf, collectOf, dropOf}
+use Rattle.histories.specs.Filling.{Filling, newFrom, latest, runsSheet, runsAt}
 use Rattle.past.specs.Past.{Call, Begin, Step, Collect, Drop, ReadWord, ReadLock, Show, Park, steps, AllRecords, Past, stateAfter}
 
 -- 1. WHAT A HISTORY COMES TO: the state; how many begins were accepted; the try of each worker's last accepted begin, and the
--- accepted steps of that worker since; the tries that won each lock, the latest first.
+-- accepted steps of that worker since; the tries that won each lock, the latest first. For request 02: the tries that took each sheet,
+-- the latest first; every filling of a log entry, the latest first; and whether a try ran the job of another, or its own, each by number.
 pub record Sofar : Type 0 where
   pub state : Engine
   pub begins : ℕ
   pub tries : ℕ → Try
   pub steps : ℕ → ℕ
   pub won : ℕ → List Try
+  pub owners : ℕ → List Try
+  pub fillings : List Filling
+  pub ran : ℕ → ℕ → Bool
 
 abbrev pub start : Engine → Sofar
 start e =
@@ -28,23 +33,50 @@ start e =
       tries = λ w. record { number = 0; lock = 0; program = [] };
       steps = λ w. 0;
       won = λ l. [];
+      owners = λ s. [];
+      fillings = [];
+      ran = λ n j. false;
     }
 
--- a begin that is accepted and gives state e is the worker's try from now on; its number is how many went before it
+-- a begin that is accepted and gives state e is the worker's try from now on, and takes the worker's own sheet; its number is how many
+-- went before it
+abbrev pub newTry : Sofar → ℕ → List ℕ → Try
+newTry x l rec = record { number = x .begins; lock = l; program = jobOf rec }
+
 abbrev pub began : Sofar → ℕ → ℕ → List ℕ → Engine → Sofar
 began x w l rec e =
     record {
       state = e;
       begins = suc (x .begins);
-      tries = λ v. pick (eqb v w) (record { number = x .begins; lock = l; program = jobOf rec }) (x .tries v);
+      tries = λ v. pick (eqb v w) (newTry x l rec) (x .tries v);
       steps = λ v. pick (eqb v w) 0 (x .steps v);
       won = x .won;
+      owners = λ s. pick (eqb s (workerAt e w .own)) (newTry x l rec ∷ x .owners s) (x .owners s);
+      fillings = x .fillings;
+      ran = x .ran;
     }
 
 -- "Grab. .. it becomes turn + 1, held by the worker's own sheet": a lock that was free before a step and is held after it, was won
 -- by the try of the worker that made the step
 abbrev pub wonBy : LockWord → LockWord → Bool
 wonBy before now = onHolder (before .holder) (onHolder (now .holder) false (λ s. true)) (λ s. false)
+
+-- what worker w's step to state e filled: entry k is one of sheet k / 32, whose last owner's job it is
+abbrev pub filledBy : Sofar → ℕ → Engine → List Filling
+filledBy x w e =
+    newFrom
+    (λ k what.
+    record {
+      job = latest (x .owners (k / instructions));
+      by = x .tries w .number;
+      instruction = runsAt (workerAt (x .state) w .state);
+      what = what;
+    })
+    0 (x .state .entry) (e .entry)
+
+-- worker w's next step is one of a run of job j
+abbrev pub runsJob : Sofar → ℕ → ℕ → Bool
+runsJob x w j = onHolder (runsSheet (workerAt (x .state) w .state)) false (λ s. eqb (latest (x .owners s)) j)
 
 -- a step that is accepted and gives state e
 abbrev pub stepped : Sofar → ℕ → Engine → Sofar
@@ -55,11 +87,24 @@ stepped x w e =
       tries = x .tries;
       steps = λ v. pick (eqb v w) (suc (x .steps w)) (x .steps v);
       won = λ l. pick (wonBy (lockAt (x .state) l) (lockAt e l)) (x .tries w ∷ x .won l) (x .won l);
+      owners = x .owners;
+      fillings = filledBy x w e ++ x .fillings;
+      ran = λ n j. pick (eqb n (x .tries w .number)) (x .ran n j or runsJob x w j) (x .ran n j);
     }
 
--- no other call begins, steps or wins
+-- no other call begins, steps, wins or fills
 abbrev pub andNow : Sofar → Engine → Sofar
-andNow x e = record { state = e; begins = x .begins; tries = x .tries; steps = x .steps; won = x .won }
+andNow x e =
+    record {
+      state = e;
+      begins = x .begins;
+      tries = x .tries;
+      steps = x .steps;
+      won = x .won;
+      owners = x .owners;
+      fillings = x .fillings;
+      ran = x .ran;
+    }
 
 -- an accepted call comes to this, by the state that it gave; a refused one to nothing new
 abbrev pub ifAccepted : Sofar → Outcome → (Engine → Sofar) → Sofar
@@ -188,11 +233,11 @@ pub record Promised (e₀ : Engine) (x : Sofar) : Type 0 where
       jobTold rec l (guardsOf (wordsOf (x .state))) ≡ Accepted → Completed e₀ x w l rec
   -- ""Ran" tells the yes or no of that one run."
   pub ran :
-      (w n : ℕ) (said : Bool) → collectOf (x .state) w .told ≡ CollectTold.Answered (pick said RanYes RanNo) n →
+      (w n m : ℕ) (said : Bool) → collectOf (x .state) w .told ≡ CollectTold.Answered (pick said RanYes RanNo) n m →
       RanOnce e₀ x (x .tries w) said
   -- ""Not taken" is only told of a job outside the list.", now and at every later cut
   pub notTaken :
-      (w n : ℕ) → collectOf (x .state) w .told ≡ CollectTold.Answered NotTaken n → (more : List Call) → AllRecords more →
+      (w n m : ℕ) → collectOf (x .state) w .told ≡ CollectTold.Answered NotTaken n m → (more : List Call) → AllRecords more →
       (l : ℕ) → times (x .tries w .number) (follow x more .won l) ≡ 0
   -- the tries of a lock's list began on that lock; a try stands in the lists once at most; and a lock's turn is its starting turn and one
   -- for each try of its list
@@ -207,7 +252,7 @@ pub record Promised (e₀ : Engine) (x : Sofar) : Type 0 where
       (x .steps w < trySteps instructions) × GoesOn (x .state) w
   -- "Collect (worker) hands out .. the number of accepted steps since begin"
   pub counted :
-      (w : ℕ) (a : Answer) (n : ℕ) → collectOf (x .state) w .told ≡ CollectTold.Answered a n →
+      (w : ℕ) (a : Answer) (n m : ℕ) → collectOf (x .state) w .told ≡ CollectTold.Answered a n m →
       (n ≡ x .steps w) × (n ≤ trySteps instructions)
   -- turns at most 67,108,864, counts below 2 to the 31st, and nothing is cut
   pub uncut : Uncut (x .state)

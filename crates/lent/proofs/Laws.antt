@@ -85,4 +85,5 @@ module _ (s : List ℕ) (w : ℕ) (h : numbers ≤ length s) where
   collect-done t r tag b e u y m =
       let q = tag-end s w b tag e u in
       let z = ap (λ (k : Worker). k .steps) (worker-is s w b) in
-      collected t r (y ∙ simp (lt-leb workers w b, q, z)) (simp (lt-leb workers w b, q) m)
+      let n = ap (λ (k : Worker). k .filled) (worker-is s w b) in
+      collected t r (y ∙ simp (lt-leb workers w b, q, z, n)) (simp (lt-leb workers w b, q) m)

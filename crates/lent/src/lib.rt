@@ -8,6 +8,7 @@ ghost use Rattle.parts.specs.Numbers.{workers};
 ghost use Rattle.cells.specs.Layout.{numbers, unpack, putIdle};
 ghost use Rattle.lent.specs.Calls.{handedOut, collectNumbers, dropNumbers};
 use cells::codes;
+use cells::worker::FILLED;
 use cells::worker::IDLE;
 use cells::worker::NEW;
 use cells::worker::RELEASE;
@@ -20,7 +21,7 @@ use parts::Refusal;
 use parts::Told;
 use parts::WORKERS;
 
-// The answer and the steps of worker w, which has finished; it is idle then.
+// What worker w, which has finished, has to hand out; it is idle then.
 fn hand_out(s: &mut [u32], w: usize) -> CollectTold
     requires { ⌜ (numbers ≤ length (now s)) × (w < workers) ⌝ }
     ensures { λ r. ⌜ r ≡ handedOut (now (s .entry)) w ⌝ }
@@ -28,12 +29,13 @@ fn hand_out(s: &mut [u32], w: usize) -> CollectTold
 {
     let new = cells::get_number(s, w, NEW);
     let steps = cells::get_number(s, w, STEPS);
+    let filled = cells::get_number(s, w, FILLED);
     cells::put_idle(s, w);
     let answer = codes::answer_of(new);
-    CollectTold::Answered(answer, steps)
+    CollectTold::Answered(answer, steps, filled)
 }
 
-// The answer of worker w's try and its steps; the worker is idle. Refused: 1, 11, 3.
+// The answer of worker w's try, its steps and the entries that it filled; the worker is idle. Refused: 1, 11, 3.
 pub fn collect(s: &mut [u32], w: u32) -> CollectTold
     requires { ⌜ numbers ≤ length (now s) ⌝ }
     ensures { λ r. ⌜ r ≡ collectOf (unpack (now (s .entry))) w .told ⌝ }

@@ -7,7 +7,7 @@ use Rattle.parts.specs.Told.{answerNumber}
 use Rattle.parts.specs.declared.Answer.{Answer}
 use Rattle.parts.specs.declared.LockWord.{LockWord}
 use Rattle.parts.specs.declared.Reading.{Reading}
-use Rattle.cells.specs.Codes.{flagNumber, holderNumber, atTag, atSteps, atSheet, atTurn, atNext, atPlace, atRegister, atValue, atCount, atNew, grabTag, lookAgainTag, readMarkTag, readTag, commitTag, swapTag, markTag, releaseTag, finishedTag}
+use Rattle.cells.specs.Codes.{flagNumber, holderNumber, atTag, atSteps, atSheet, atTurn, atNext, atPlace, atRegister, atValue, atCount, atNew, atFilled, grabTag, lookAgainTag, readMarkTag, readTag, commitTag, swapTag, markTag, releaseTag, finishedTag}
 use Rattle.cells.specs.Layout.{numberAt, runNow, putNumber}
 
 -- one accepted step more, and the tag that it leads to: every move
@@ -74,3 +74,7 @@ toRelease s w = steppedTo s w releaseTag
 
 unfoldable pub finished : List ℕ → ℕ → Answer → List ℕ
 finished s w answer = putNumber (steppedTo s w finishedTag) w atNew (answerNumber answer)
+
+-- request 02: one entry more that the worker was first to fill
+unfoldable pub counted : List ℕ → ℕ → List ℕ
+counted s w = putNumber s w atFilled (next32 (numberAt s w atFilled))

@@ -5,9 +5,10 @@ ghost use Prim.Native.Nat.{_+_, _%_, _^_, _≤_, _<_};
 ghost use lib.ListN.{length};
 ghost use Rattle.parts.specs.Numbers.{workers};
 ghost use Rattle.cells.specs.Layout.{numbers, runNow};
-ghost use Rattle.lent_moves.specs.Moves.{steppedTo, toGrab, toLookAgain, toReadMark, cleared, started, passed, went, toMark, holding, placeAfter, logged, loaded, toSwap, finished};
+ghost use Rattle.lent_moves.specs.Moves.{steppedTo, toGrab, toLookAgain, toReadMark, cleared, started, passed, went, toMark, holding, placeAfter, logged, loaded, toSwap, finished, counted};
 use cells::codes;
 use cells::worker::COUNT;
+use cells::worker::FILLED;
 use cells::worker::FINISHED;
 use cells::worker::GRAB;
 use cells::worker::LOOK_AGAIN;
@@ -179,4 +180,14 @@ pub fn finish(s: &mut [u32], w: usize, answer: Answer)
     let new = answer.number();
     step_to(s, w, FINISHED);
     cells::put_number(s, w, NEW, new);
+}
+
+// One entry more that the worker was first to fill.
+pub fn count(s: &mut [u32], w: usize)
+    requires { ⌜ (numbers ≤ length (now s)) × (w < workers) ⌝ }
+    ensures { λ _. ⌜ now (s .exit) ≡ counted (now (s .entry)) w ⌝ }
+{
+    let n = cells::get_number(s, w, FILLED);
+    let filled = std::num::wrapping_add_u32(n, 1);
+    cells::put_number(s, w, FILLED, filled);
 }

@@ -1,4 +1,5 @@
 pub mod Put
 pub mod Moved
 pub mod Says
+pub mod Fills
 pub mod Laws

@@ -11,6 +11,7 @@ use Rattle.steps.specs.Try as try
 use Rattle.steps.specs.Try.{toOf}
 use Rattle.steps.specs.Worker.{movedOf}
 use Rattle.steps.specs.declared.State.{State}
+use Rattle.steps.specs.declared.Worker.{Worker}
 use Rattle.engine.specs.State.{sheet0, workerAt, withWorker}
 use Rattle.engine.specs.Step.{viewAt, putAt}
 use Rattle.engine.specs.declared.Engine.{Engine}
@@ -67,9 +68,11 @@ module _ (e : Engine) (at : Places) (q : State) where
         worker = set (e .worker) (at .worker) (movedOf (workerAt e (at .worker)) q);
       }
 
-  pub put-entry : (x : Entry) → putAt e at (toOf (try.viewWithEntry (viewAt e at) x) q) ≡ withEntry (movedTo e at q) (at .entry) x
+  -- with the worker that committed to it
+  pub put-entry : (x : Entry) (k : Worker) →
+      putAt e at (toOf (try.viewWithEntry (viewAt e at) x k) q) ≡ withEntry (withWorker e (at .worker) (movedOf k q)) (at .entry) x
   unfolding putAt viewAt
-  put-entry x =
+  put-entry x k =
       λ t.
       record {
         locks = e .locks;
@@ -79,7 +82,7 @@ module _ (e : Engine) (at : Places) (q : State) where
         sheet = set-getD (e .sheet) (at .sheet) sheet0 t;
         program = e .program;
         entry = set (e .entry) (at .entry) x;
-        worker = set (e .worker) (at .worker) (movedOf (workerAt e (at .worker)) q);
+        worker = set (e .worker) (at .worker) (movedOf k q);
       }
 
   pub put-done : putAt e at (toOf (try.viewWithDone (viewAt e at)) q) ≡

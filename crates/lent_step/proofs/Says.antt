@@ -12,7 +12,7 @@ use lib.Seq.{set-getD}
 use Rattle.parts.specs.Instr.{asksOf, followsOf, onAsks, onFollows, setOf, addOf, subOf, overOf}
 use Rattle.parts.specs.Numbers.{workers, mostLocks, mostWords, sheets, lastTurn}
 use Rattle.parts.specs.Parts as parts
-use Rattle.parts.specs.Parts.{entry0, lock0, word0, next32, readingOf, committedOf, holdsOf, registerOf}
+use Rattle.parts.specs.Parts.{entry0, lock0, word0, next32, readingOf, committedOf, holdsOf, isFirst, registerOf}
 use Rattle.parts.specs.Pick.{pick, onHolder}
 use Rattle.parts.specs.declared.Answer.{Answer}
 use Rattle.parts.specs.declared.Answer.the-variants.{NotTaken}
@@ -33,7 +33,7 @@ use Rattle.steps.specs.Places.{spotOf}
 use Rattle.steps.specs.Try as try
 use Rattle.steps.specs.Try.{toOf, startOf, ontoOf, loggedOf, effectOf}
 use Rattle.steps.specs.Worker as worker
-use Rattle.steps.specs.Worker.{onState}
+use Rattle.steps.specs.Worker.{onState, movedOf, countedOf}
 use Rattle.steps.specs.declared.Point.{Point}
 use Rattle.steps.specs.declared.Point.the-variants.{Look, Grab, LookAgain, ReadMark}
 use Rattle.steps.specs.declared.Run.{Run}
@@ -43,7 +43,7 @@ use Rattle.steps.specs.declared.State.the-variants.{Idle, UnderWay, Finished}
 use Rattle.steps.specs.declared.View.{View}
 use Rattle.steps.specs.declared.Worker.{Worker}
 use Rattle.engine.specs.Calls.{stepOf}
-use Rattle.engine.specs.State.{sheet0, workerAt, lockAt, wordAt}
+use Rattle.engine.specs.State.{sheet0, workerAt, lockAt, wordAt, withWorker}
 use Rattle.engine.specs.Step.{placesOf, viewAt, putAt, steppedOf}
 use Rattle.engine.specs.declared.Engine.{Engine}
 use Rattle.engine.specs.declared.Sheet.{Sheet}
@@ -58,8 +58,8 @@ use Rattle.cells.proofs.Unpack.{Says, Puts, unpack-lock, unpack-word, unpack-sh
 use Rattle.lent_moves.specs.Moves.{toGrab, started, finished}
 use Rattle.lent_moves.specs.Looks.{ownNow, lockPlace, lockNow, saidNow, registersNow, instrNow, wordPlace, wordNow, entryPlace, entryNow, sheetNow, answerNow, sumNow, differenceNow}
 use Rattle.lent_step.specs.Points.{looked, lookNumbers, grabNumbers, lookAgainNumbers, startedOwn, startedSeen, markRead, readMarkNumbers, firstNumbers, readNumbers, followNumbers, entryFilled, committed, commitNumbers, swapNumbers, markNumbers, releaseNumbers, onwardNumbers, stepNumbers}
-use Rattle.lent_step.proofs.Moved.{Moved, moved-grab, moved-again, moved-seen, moved-start, moved-pass, moved-go, moved-halt, moved-touch, moved-log, moved-load, moved-store, moved-release, moved-finish}
-use Rattle.lent_step.proofs.Put.{movedTo, put-alone, put-lock, put-word, put-entry, put-done}
+use Rattle.lent_step.proofs.Moved.{Moved, moved-grab, moved-again, moved-seen, moved-start, moved-pass, moved-go, moved-halt, moved-touch, moved-log, moved-load, moved-store, moved-release, moved-finish, moved-count}
+use Rattle.lent_step.proofs.Put.{put-alone, put-lock, put-word, put-entry, put-done}
 
 -- The bytes of a piece are bytes, of whatever numbers.
 holder-fits : (x : ℕ) → HolderFits (holderOf x)
@@ -287,18 +287,18 @@ abbrev SaysAt : List ℕ → ℕ → List ℕ → Point → Type 0
 SaysAt s w t p = Says s t (steppedOf (unpack s) w p)
 
 -- by the worker's move alone; by its move to the numbers t and one more piece written
-alone : (s t : List ℕ) (w : ℕ) (p : Point) (q : State) → Moved s w t q → movedTo (unpack s) (placesOf (unpack s) w p) q ≡ steppedOf (unpack s) w p → SaysAt s w t p
-unfolding placesOf
+alone :
+    (s t : List ℕ) (w : ℕ) (p : Point) (q : State) → Moved s w t q →
+    withWorker (unpack s) w (movedOf (workerAt (unpack s) w) q) ≡ steppedOf (unpack s) w p → SaysAt s w t p
 alone s t w p q m e = (m .0 ∙ e, m .1)
 
 with-piece :
     {A : Type 0} (part : Part A) (change : Engine → ℕ → A → Engine) → Puts part change →
-    (s t : List ℕ) (w : ℕ) (p : Point) (q : State) (i : ℕ) (x : A) →
-    numbers ≤ length s → i < part .count → part .reading (part .writing x) ≡ x → Moved s w t q →
-    change (movedTo (unpack s) (placesOf (unpack s) w p) q) i x ≡ steppedOf (unpack s) w p →
+    (s t : List ℕ) (w : ℕ) (p : Point) (k : Worker) (i : ℕ) (x : A) →
+    numbers ≤ length s → i < part .count → part .reading (part .writing x) ≡ x → Says s t (withWorker (unpack s) w k) →
+    change (withWorker (unpack s) w k) i x ≡ steppedOf (unpack s) w p →
     SaysAt s w (putPiece part t i x) p
-unfolding placesOf
-with-piece part change law s t w p q i x h b f m e = (
+with-piece part change law s t w p k i x h b f m e = (
   law t i x (omega (arith, m .1)) b f ∙ ap (λ (y : Engine). change y i x) (m .0) ∙ e,
   length-put part t i x ∙ m .1,
 )
@@ -311,6 +311,15 @@ committed-empty e x h = simp h
 committed-filled : (e : Entry) (x r : Reading) → e .fill ≡ Filled r → committedOf e x ≡ e
 unfolding committedOf
 committed-filled e x r h = simp h
+
+-- and of the worker that committed to it
+counted-empty : (k : Worker) (e : Entry) → e .fill ≡ Empty → countedOf k (isFirst e) ≡ countedOf k true
+unfolding isFirst
+counted-empty k e h = simp h
+
+counted-filled : (k : Worker) (e : Entry) (r : Reading) → e .fill ≡ Filled r → countedOf k (isFirst e) ≡ k
+unfolding isFirst countedOf
+counted-filled k e r h = simp h
 
 entry-stays : (e : Engine) (i : ℕ) → e ≡ withEntry e i (getD (e .entry) i entry0)
 entry-stays e i =
@@ -346,7 +355,7 @@ module _ (s : List ℕ) (w : ℕ) (h : numbers ≤ length s) (b : w < workers) w
       let seen = numberAt s w atTurn in
       let x = parts.grabOf (lockNow s w) seen (ownNow s w) in
       let q = UnderWay (LookAgain (next32 seen)) in
-      with-piece lockPart withLock unpack-lock s _ w (Grab seen) q (lockPlace s w) x h (omega arith)
+      with-piece lockPart withLock unpack-lock s _ w (Grab seen) (movedOf (workerAt e w) q) (lockPlace s w) x h (omega arith)
       (lock-back x (grab-fits (lockNow s w) seen (ownNow s w) (lock-fits s (lockPlace s w) (omega arith)) (own-byte s w b)))
       (moved-again s w h b (next32 seen)) (sym (put-lock e (placesOf e w (Grab seen)) q x))
 
@@ -376,12 +385,13 @@ module _ (s : List ℕ) (w : ℕ) (h : numbers ≤ length s) (b : w < workers) w
       alone s _ w (Point.Run r Read) q (moved-first s w h b (instrNow s w))
       (sym (ap (λ (v : View). putAt e at v) (read-is (viewAt e at) r) ∙ put-alone e at q))
 
-  -- by what the entry holds, and what it is then
+  -- by what the entry holds, what it is then, and whether the worker counts it
   committing :
       (x : Reading) →
       withEntry
-      (movedTo e (placesOf e w (Point.Run r (Commit x)))
-      (followState (followsOf (instrNow s w) (r .registers) (holdsOf (entryNow s w) x .value)) (loggedOf r) (holdsOf (entryNow s w) x)))
+      (withWorker e w
+      (movedOf (countedOf (workerAt e w) (isFirst (entryNow s w)))
+      (followState (followsOf (instrNow s w) (r .registers) (holdsOf (entryNow s w) x .value)) (loggedOf r) (holdsOf (entryNow s w) x))))
       (entryPlace s w) (committedOf (entryNow s w) x) ≡
       steppedOf e w (Point.Run r (Commit x))
   unfolding effectOf try.commitStep placesOf spotOf instrNow viewAt
@@ -389,9 +399,10 @@ module _ (s : List ℕ) (w : ℕ) (h : numbers ≤ length s) (b : w < workers) w
       let at = placesOf e w (Point.Run r (Commit x)) in
       let held = holdsOf (entryNow s w) x in
       let y = committedOf (entryNow s w) x in
+      let k = countedOf (workerAt e w) (isFirst (entryNow s w)) in
       sym
-      (ap (λ (v : View). putAt e at v) (follow-is (try.viewWithEntry (viewAt e at) y) (loggedOf r) held) ∙
-      put-entry e at (followState (followsOf (instrNow s w) (r .registers) (held .value)) (loggedOf r) held) y)
+      (ap (λ (v : View). putAt e at v) (follow-is (try.viewWithEntry (viewAt e at) y k) (loggedOf r) held) ∙
+      put-entry e at (followState (followsOf (instrNow s w) (r .registers) (held .value)) (loggedOf r) held) y k)
 
   commit-says : SaysAt s w (commitNumbers s w) (Point.Run r (Commit (readNow s w)))
   unfolding commitNumbers committed entryFilled
@@ -415,12 +426,14 @@ module _ (s : List ℕ) (w : ℕ) (h : numbers ≤ length s) (b : w < workers) w
       go : (f : Fill) → entryNow s w .fill ≡ f → SaysAt s w (commitNumbers s w) p
       go Empty z =
           simp z
-          (with-piece entryPart withEntry unpack-entry s _ w p q (entryPlace s w) (record { fill = Filled x }) h (omega arith)
-          (entry-back (record { fill = Filled x })) m (rw (committed-empty (entryNow s w) x z) at (committing x)))
+          (with-piece entryPart withEntry unpack-entry s _ w p (movedOf (countedOf (workerAt e w) true) q) (entryPlace s w)
+          (record { fill = Filled x }) h (omega arith) (entry-back (record { fill = Filled x })) (moved-count s _ w q h b m)
+          (rw (committed-empty (entryNow s w) x z, counted-empty (workerAt e w) (entryNow s w) z) at (committing x)))
       go (Filled y) z =
           simp z
           (alone s _ w p q m
-          (entry-stays (movedTo e (placesOf e w p) q) (entryPlace s w) ∙ rw (committed-filled (entryNow s w) x y z) at (committing x)))
+          (entry-stays (withWorker e w (movedOf (workerAt e w) q)) (entryPlace s w) ∙
+          rw (committed-filled (entryNow s w) x y z, counted-filled (workerAt e w) (entryNow s w) y z) at (committing x)))
 
   swap-says : SaysAt s w (swapNumbers s w) (Point.Run r (Swap (readNow s w) (numberAt s w atNew)))
   unfolding swapNumbers effectOf try.swapStep placesOf spotOf instrNow viewAt
@@ -430,7 +443,7 @@ module _ (s : List ℕ) (w : ℕ) (h : numbers ≤ length s) (b : w < workers) w
       let x = wordAt e j in
       let y = parts.swapOf x (readNow s w) (numberAt s w atNew) in
       let q = UnderWay (Point.Run (ontoOf r 0 (r .registers)) Read) in
-      with-piece wordPart withWord unpack-word s _ w p q j y h (omega arith)
+      with-piece wordPart withWord unpack-word s _ w p (movedOf (workerAt e w) q) j y h (omega arith)
       (word-back y (omega (arith, swap-guard x (readNow s w) (numberAt s w atNew), guard-byte s j (omega arith))))
       (moved-pass s w h b 0) (sym (put-word e (placesOf e w p) q y))
 
@@ -441,7 +454,7 @@ module _ (s : List ℕ) (w : ℕ) (h : numbers ≤ length s) (b : w < workers) w
       let j = r .sheet % sheets in
       let y : Sheet = record { length = sheetNow s (r .sheet) .length; done = true } in
       let q = UnderWay (Point.Run r (Release (saidNow s w))) in
-      with-piece sheetPart withSheet unpack-sheet s _ w p q j y h (omega arith) (sheet-back y (length-byte s j (omega arith)))
+      with-piece sheetPart withSheet unpack-sheet s _ w p (movedOf (workerAt e w) q) j y h (omega arith) (sheet-back y (length-byte s j (omega arith)))
       (moved-release s w h b) (sym (put-done e (placesOf e w p) q))
 
   release-says : SaysAt s w (releaseNumbers s w) (Point.Run r (Release (saidNow s w)))
@@ -449,7 +462,7 @@ module _ (s : List ℕ) (w : ℕ) (h : numbers ≤ length s) (b : w < workers) w
   release-says =
       let p = Point.Run r (Release (saidNow s w)) in
       let y = parts.releaseOf (lockNow s w) (r .won) (r .sheet) in
-      with-piece lockPart withLock unpack-lock s _ w p (Finished (answerNow s w)) (lockPlace s w) y h (omega arith)
+      with-piece lockPart withLock unpack-lock s _ w p (movedOf (workerAt e w) (Finished (answerNow s w))) (lockPlace s w) y h (omega arith)
       (lock-back y (release-fits (lockNow s w) (r .won) (r .sheet) (lock-fits s (lockPlace s w) (omega arith))))
       (moved-finish s w h b (answerNow s w)) (sym (put-lock e (placesOf e w p) (Finished (answerNow s w)) y))
 

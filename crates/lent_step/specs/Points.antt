@@ -5,7 +5,7 @@ use Rattle.engine.specs.Calls.{stepTold}
 use Rattle.cells.specs.Codes.{atTag, atTurn, atNew, lookTag, grabTag, lookAgainTag, readMarkTag, readTag, commitTag, swapTag, markTag}
 use Rattle.cells.specs.Layout.{unpack, numberAt, runNow, readNow, seenNow, putLock, putWord, putSheet, putEntry}
 use Rattle.lent_moves.specs.Looks.{ownNow, lockPlace, lockNow, registersNow, instrNow, wordPlace, wordNow, entryPlace, entryNow, sheetNow, sumNow, differenceNow, answerNow}
-use Rattle.lent_moves.specs.Moves.{toGrab, toLookAgain, toReadMark, started, passed, went, toMark, toCommit, logged, loaded, toSwap, toRelease, finished}
+use Rattle.lent_moves.specs.Moves.{toGrab, toLookAgain, toReadMark, started, passed, went, toMark, toCommit, logged, loaded, toSwap, toRelease, finished, counted}
 
 -- 1. Look, by the lock word that it finds
 unfoldable pub looked : List ℕ → ℕ → LockWord → List ℕ
@@ -64,11 +64,12 @@ followNumbers s w i held =
     (toSwap s w held (registerOf (registersNow s w) (i .b))) (logged s w)))
 
 -- commit: an entry that is empty takes what was read; either way the worker goes on with what the entry holds
-unfoldable pub entryFilled : List ℕ → ℕ → Entry → Reading → List ℕ
-entryFilled s j e read = onFill (e .fill) (putEntry s j (record { fill = Filled read })) (λ held. s)
+-- The worker that fills the entry counts it
+unfoldable pub entryFilled : List ℕ → ℕ → ℕ → Entry → Reading → List ℕ
+entryFilled s w j e read = onFill (e .fill) (putEntry (counted s w) j (record { fill = Filled read })) (λ held. s)
 
 unfoldable pub committed : List ℕ → ℕ → Instr → ℕ → Entry → List ℕ
-committed s w i j e = entryFilled (followNumbers s w i (holdsOf e (readNow s w))) j e (readNow s w)
+committed s w i j e = entryFilled (followNumbers s w i (holdsOf e (readNow s w))) w j e (readNow s w)
 
 unfoldable pub commitNumbers : List ℕ → ℕ → List ℕ
 commitNumbers s w = committed s w (instrNow s w) (entryPlace s w) (entryNow s w)

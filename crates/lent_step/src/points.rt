@@ -203,10 +203,10 @@ fn follow(s: &mut [u32], w: usize, i: Instr, held: Reading)
     }
 }
 
-// An empty log entry takes what was read; a filled one stays.
-fn fill(s: &mut [u32], j: usize, e: Entry, read: Reading)
-    requires { ⌜ (numbers ≤ length (now s)) × (j < entries) ⌝ }
-    ensures { λ _. ⌜ now (s .exit) ≡ entryFilled (now (s .entry)) j e read ⌝ }
+// An empty log entry takes what was read, and worker w counts it; a filled one stays.
+fn fill(s: &mut [u32], w: usize, j: usize, e: Entry, read: Reading)
+    requires { ⌜ (numbers ≤ length (now s)) × (w < workers) × (j < entries) ⌝ }
+    ensures { λ _. ⌜ now (s .exit) ≡ entryFilled (now (s .entry)) w j e read ⌝ }
 {
     let old = e.fill;
     match old {
@@ -214,6 +214,7 @@ fn fill(s: &mut [u32], j: usize, e: Entry, read: Reading)
             let filled = Entry {
                 fill: Fill::Filled(read),
             };
+            moves::count(s, w);
             cells::put_entry(s, j, filled);
         }
         Fill::Filled(_) => {}
@@ -227,7 +228,7 @@ fn commit_to(s: &mut [u32], w: usize, i: Instr, j: usize, e: Entry)
 {
     let read = cells::get_reading(s, w);
     follow(s, w, i, e.holds(read));
-    fill(s, j, e, read);
+    fill(s, w, j, e, read);
 }
 
 pub fn commit(s: &mut [u32], w: usize) -> Told

@@ -55,6 +55,10 @@ committedOf e read = onFill (e .fill) (record { fill = Filled read }) (λ first.
 unfoldable pub holdsOf : Entry → Reading → Reading
 holdsOf e read = onFill (e .fill) read (λ first. first)
 
+-- request 02: "Commit also says whether this worker filled the entry"
+unfoldable pub isFirst : Entry → Bool
+isFirst e = onFill (e .fill) true (λ first. false)
+
 -- "the lock is free with turn 67,108,864"
 unfoldable pub wornOf : LockWord → Bool
 wornOf l = onHolder (l .holder) (eqb (l .turn) lastTurn) (λ s. false)

@@ -3,7 +3,7 @@
 ghost use mathlib.Core.Path.{_≡_};
 ghost use Rattle.parts.specs.Told.{answerNumber, refusalNumber, refusalPlace};
 ghost use Rattle.parts.specs.Instr.{setOf, addOf, subOf, overOf, wordOf, asksOf, followsOf};
-ghost use Rattle.parts.specs.Parts.{registerOf, withRegister, readingOf, swapOf, committedOf, holdsOf, wornOf, grabOf, releaseOf};
+ghost use Rattle.parts.specs.Parts.{registerOf, withRegister, readingOf, swapOf, committedOf, holdsOf, isFirst, wornOf, grabOf, releaseOf};
 
 pub const WORKERS: usize = 8;
 
@@ -341,6 +341,17 @@ impl Entry {
         match s {
             Fill::Empty => read,
             Fill::Filled(first) => first,
+        }
+    }
+
+    // Whether a commit to it is the first: the one that fills it.
+    pub fn is_first(self) -> bool
+        ensures { λ r. ⌜ r ≡ isFirst self ⌝ }
+    {
+        let s = self.fill;
+        match s {
+            Fill::Empty => true,
+            Fill::Filled(_) => false,
         }
     }
 }

@@ -96,7 +96,7 @@ collectedTo e w t =
     onTold t
     (record {
       engine = withWorker e w (collectedOf (workerAt e w));
-      told = CollectTold.Answered (lastAnswer (workerAt e w)) (workerAt e w .steps);
+      told = CollectTold.Answered (lastAnswer (workerAt e w)) (workerAt e w .steps) (workerAt e w .filled);
     })
     (λ r. record { engine = e; told = CollectTold.Refused r })
 

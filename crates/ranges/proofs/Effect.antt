@@ -8,7 +8,7 @@ use borrow.Author.Tests.{eqb-true, eqb-false}
 use Rattle.parts.specs.Instr.{asksOf, followsOf, onAsks, onFollows, setOf, addOf, subOf, overOf}
 use Rattle.parts.specs.Numbers.{sheets, lastTurn}
 use Rattle.parts.specs.Parts as parts
-use Rattle.parts.specs.Parts.{registerOf, withRegister, committedOf, holdsOf, readingOf, next32}
+use Rattle.parts.specs.Parts.{registerOf, withRegister, committedOf, holdsOf, isFirst, readingOf, next32}
 use Rattle.parts.specs.Pick.{pick, onHolder, onFill}
 use Rattle.parts.specs.declared.Answer.the-variants.{NotTaken}
 use Rattle.parts.specs.declared.Asks.{Asks}
@@ -26,6 +26,7 @@ use Rattle.parts.specs.declared.Reading.{Reading}
 use Rattle.parts.specs.declared.Registers.{Registers}
 use Rattle.parts.specs.declared.Word.{Word}
 use Rattle.steps.specs.Try.{viewWithLock, viewWithWord, viewWithEntry, viewWithDone, toOf, atOf, startOf, ontoOf, loggedOf, lookStep, grabStep, lookAgainStep, readMarkStep, readStep, followStep, commitStep, swapStep, markStep, answerOf, releaseStep, effectOf}
+use Rattle.steps.specs.Worker.{countedOf}
 use Rattle.steps.specs.declared.Point.{Point}
 use Rattle.steps.specs.declared.Point.the-variants.{Look, Grab, LookAgain, ReadMark}
 use Rattle.steps.specs.declared.Run.{Run}
@@ -33,6 +34,7 @@ use Rattle.steps.specs.declared.Stage.the-variants.{Read, Commit, Swap, Mark, R
 use Rattle.steps.specs.declared.State.{State}
 use Rattle.steps.specs.declared.State.the-variants.{UnderWay, Finished}
 use Rattle.steps.specs.declared.View.{View}
+use Rattle.steps.specs.declared.Worker.{Worker}
 use Rattle.ranges.specs.Good.{Fits32, GoodHolder, GoodLock, GoodWord, GoodReading, GoodRegisters, GoodInstr, GoodFill, GoodEntry, GoodRun, GoodPoint, GoodState, GoodWorker}
 use Rattle.ranges.proofs.Frame.{pick-all}
 
@@ -178,12 +180,23 @@ logged-good : (r : Run) → GoodRun r → GoodRun (loggedOf r)
 logged-good r g =
     record { sheet = g .sheet; won = g .won; next = g .next; place = omega arith; registers = g .registers }
 
+counted-good : (L : ℕ) (k : Worker) (first : Bool) → GoodWorker L k → GoodWorker L (countedOf k first)
+unfolding countedOf
+counted-good L k first g =
+    record {
+      lock = g .lock;
+      own = g .own;
+      steps = g .steps;
+      filled = pick-all Fits32 first (next32 (k .filled)) (k .filled) (cut (k .filled + 1)) (g .filled);
+      state = g .state;
+    }
+
 -- each point of a try, in a state with L locks, of which there is one at least
 module _ (L : ℕ) (some : 1 ≤ L) where
   to-good : (v : View) (s : State) → GoodView L v → GoodState L s → GoodView L (toOf v s)
   to-good v s g h =
       record {
-        worker = record { lock = g .worker .lock; own = g .worker .own; steps = cut (v .worker .steps + 1); state = h };
+        worker = record { lock = g .worker .lock; own = g .worker .own; steps = cut (v .worker .steps + 1); filled = g .worker .filled; state = h };
         lock = g .lock;
         word = g .word;
         entry = g .entry;
@@ -253,9 +266,10 @@ module _ (L : ℕ) (some : 1 ≤ L) where
   effect-good (ReadMark seen won) v h g = mark-good v seen won g (h .0) (h .1)
   effect-good (Point.Run r Read) v h g = read-good v r g (h .0)
   effect-good (Point.Run r (Commit read)) v h g =
-      follow-good (viewWithEntry v (committedOf (v .entry) read)) (loggedOf r) (holdsOf (v .entry) read)
+      follow-good (viewWithEntry v (committedOf (v .entry) read) (countedOf (v .worker) (isFirst (v .entry)))) (loggedOf r)
+      (holdsOf (v .entry) read)
       (record {
-        worker = g .worker;
+        worker = counted-good L (v .worker) (isFirst (v .entry)) (g .worker);
         lock = g .lock;
         word = g .word;
         entry = committed-good (v .entry) read (g .entry) (h .1);

@@ -35,7 +35,7 @@ use Rattle.ranges.proofs.Taken.{job-good, instr0-good, word0-good, lock
 
 -- what the arrays have at the start
 idle-good : (L : ℕ) → GoodWorker L worker0
-idle-good L = record { lock = omega arith; own = omega arith; steps = omega arith; state = tt }
+idle-good L = record { lock = omega arith; own = omega arith; steps = omega arith; filled = omega arith; state = tt }
 
 sheet0-good : GoodSheet sheet0
 sheet0-good = omega arith
@@ -129,7 +129,7 @@ looking-good e w l rec g t =
     let most = g .numbers .locks in
     let lock = t .lock in
     state-all (GoodWorker (e .locks)) (workerAt e w .state) (lookingOf l (freeSheet e)) (λ p. workerAt e w) (λ x. workerAt e w)
-    (λ q. record { lock = omega arith; own = t .sheet; steps = omega arith; state = (omega arith, tt) })
+    (λ q. record { lock = omega arith; own = t .sheet; steps = omega arith; filled = omega arith; state = (omega arith, tt) })
     (λ p q. g .worker w) (λ x q. g .worker w)
 
 begun-good :

@@ -115,6 +115,7 @@ pub record GoodWorker (locks : ℕ) (k : Worker) : Type 0 where
   pub lock : k .lock ≤ locks - 1
   pub own : k .own < sheets
   pub steps : Fits32 (k .steps)
+  pub filled : Fits32 (k .filled)
   pub state : GoodState locks (k .state)
 
 -- the length of each array

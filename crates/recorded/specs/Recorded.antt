@@ -125,7 +125,7 @@ pub record Replays : Type 0 where
       length (fileOf setup cs ++ rest) ≤ mostFile → 0 < length rest → recordTold rest ≡ Refused r →
       (printedOf (fileOf setup cs ++ rest) ≡
       printedOf (fileOf setup cs) ++
-      lineText (length (linesAlong (setupOf setup .engine) cs)) (record { number = refusalNumber r; answer = 0; steps = 0 })) ×
+      lineText (length (linesAlong (setupOf setup .engine) cs)) (Number (refusalNumber r))) ×
       (replayedState (fileOf setup cs ++ rest) ≡ afterAll (setupOf setup .engine) cs)
   -- and every string of bytes is the records of some calls, up to its end or to a record that is refused
   pub every : (s : List ℕ) → AllBytes s → Split s

@@ -16,7 +16,7 @@ sampleLines =
     refusedLine WorkerIdle ∷
     acceptedLine ∷
     replicate 14 acceptedLine ++
-    (record { number = 0; answer = 1; steps = 14 } ∷
+    (Answer 1 14 2 ∷
     refusedLine NoWorker ∷
     [])
 
@@ -31,10 +31,10 @@ pub record Shown : Type 0 where
   pub noLocks : printedOf (0x1D ∷ 0x00 ∷ 0x02 ∷ 0x00 ∷ 0x00 ∷ drop 5 setupS) ≡ 49 ∷ 50 ∷ 10 ∷ []
   pub file : IsFile setupS sampleCalls
   pub lines : linesAlong fresh sampleCalls ≡ sampleLines
-  -- `16 0 1 14`: the line of its second collect
+  -- `16 0 1 14 2`: the line of its second collect
   pub text :
-      linesText 16 (record { number = 0; answer = 1; steps = 14 } ∷ []) ≡
-      49 ∷ 54 ∷ 32 ∷ 48 ∷ 32 ∷ 49 ∷ 32 ∷ 49 ∷ 52 ∷ 10 ∷ []
+      linesText 16 (Answer 1 14 2 ∷ []) ≡
+      49 ∷ 54 ∷ 32 ∷ 48 ∷ 32 ∷ 49 ∷ 32 ∷ 49 ∷ 52 ∷ 32 ∷ 50 ∷ 10 ∷ []
   -- 5 of a record that is cut short, also where its kind is another; then 6, also where it makes no call; then 17, of a begin
   -- without instructions and of one with 33
   pub five : recordTold (0x09 ∷ 0x00 ∷ 0x04 ∷ 0x00 ∷ 0x01 ∷ 0x00 ∷ 0x00 ∷ 0x00 ∷ []) ≡ Refused Length

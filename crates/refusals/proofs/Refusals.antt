@@ -61,29 +61,29 @@ module _ {A : Type 0} (refused : Refusal → A) (same : (s r : Refusal) → refu
       (λ k. back .0 (there .0 k), λ g. there .1 (back .1 g))
 
 -- collect's outcome: what it tells, and its state
-abbrev collectedOf : Engine → Told → Engine → Answer → ℕ → Collected
-collectedOf e t next answer n =
-    onTold t (record { engine = next; told = CollectTold.Answered answer n })
+abbrev collectedOf : Engine → Told → Engine → Answer → ℕ → ℕ → Collected
+collectedOf e t next answer n m =
+    onTold t (record { engine = next; told = CollectTold.Answered answer n m })
     (λ r. record { engine = e; told = CollectTold.Refused r })
 
 collected-told :
-    (e : Engine) (t : Told) (next : Engine) (answer : Answer) (n : ℕ) →
-    collectedOf e t next answer n .told ≡ onTold t (CollectTold.Answered answer n) CollectTold.Refused
-collected-told e Accepted next answer n = refl
-collected-told e (Refused r) next answer n = refl
+    (e : Engine) (t : Told) (next : Engine) (answer : Answer) (n m : ℕ) →
+    collectedOf e t next answer n m .told ≡ onTold t (CollectTold.Answered answer n m) CollectTold.Refused
+collected-told e Accepted next answer n m = refl
+collected-told e (Refused r) next answer n m = refl
 
 collected-kept :
-    (e : Engine) (t : Told) (next : Engine) (answer : Answer) (n : ℕ) (r : Refusal) →
-    collectedOf e t next answer n .told ≡ CollectTold.Refused r → collectedOf e t next answer n .engine ≡ e
-collected-kept e Accepted next answer n r h = let z : _≡_ {A = ℕ} 0 1 = cc in absurd (omega arith)
-collected-kept e (Refused s) next answer n r h = refl
+    (e : Engine) (t : Told) (next : Engine) (answer : Answer) (n m : ℕ) (r : Refusal) →
+    collectedOf e t next answer n m .told ≡ CollectTold.Refused r → collectedOf e t next answer n m .engine ≡ e
+collected-kept e Accepted next answer n m r h = let z : _≡_ {A = ℕ} 0 1 = cc in absurd (omega arith)
+collected-kept e (Refused s) next answer n m r h = refl
 
 collected-exactly :
-    (e : Engine) (t : Told) (next : Engine) (answer : Answer) (n : ℕ) (rows : List Told) (r : Refusal) → t ≡ firstOf rows →
-    collectedOf e t next answer n .told ≡ CollectTold.Refused r ↔ Given rows r
-collected-exactly e t next answer n rows r h =
-    let same = collected-told e t next answer n in
-    let told = by-told CollectTold.Refused (λ s q k. cc) t (CollectTold.Answered answer n) rows r
+    (e : Engine) (t : Told) (next : Engine) (answer : Answer) (n m : ℕ) (rows : List Told) (r : Refusal) → t ≡ firstOf rows →
+    collectedOf e t next answer n m .told ≡ CollectTold.Refused r ↔ Given rows r
+collected-exactly e t next answer n m rows r h =
+    let same = collected-told e t next answer n m in
+    let told = by-told CollectTold.Refused (λ s q k. cc) t (CollectTold.Answered answer n m) rows r
     (λ s k. let z : _≡_ {A = ℕ} 0 1 = cc in absurd (omega arith)) h in
     (λ k. told .0 (sym same ∙ k), λ g. same ∙ told .1 g)
 
@@ -107,7 +107,7 @@ exactly r =
     record {
       begin = λ e w l rec. by-rows _ (beginRows e w l rec) r (outcome-told e _ _ ∙ begin-rows e w l rec);
       step = λ e w. by-rows _ (stepRows e w) r (outcome-told e _ _ ∙ step-rows e w);
-      collect = λ e w. collected-exactly e (collectTold e w) _ _ _ (collectRows e w) r (collect-rows e w);
+      collect = λ e w. collected-exactly e (collectTold e w) _ _ _ _ (collectRows e w) r (collect-rows e w);
       drop = λ e w. by-rows _ (dropRows e w) r (outcome-told e _ _ ∙ drop-rows e w);
       setup = λ rec. by-rows _ (setupRows rec) r (outcome-told blankOf _ _ ∙ setup-rows rec);
       readWord =
@@ -129,7 +129,7 @@ refused-state r =
     record {
       begin = λ e w l rec h. outcome-kept e (beginTold e w l rec) _ r h;
       step = λ e w h. outcome-kept e (stepTold e w) _ r h;
-      collect = λ e w h. collected-kept e (collectTold e w) _ _ _ r h;
+      collect = λ e w h. collected-kept e (collectTold e w) _ _ _ _ r h;
       drop = λ e w h. outcome-kept e (dropTold e w) _ r h;
       setup = λ rec h. outcome-kept blankOf (setupTold rec) _ r h;
       show = λ e s buf h. write-kept (showTold e s (length buf)) (sheetRecord e s) buf r h;

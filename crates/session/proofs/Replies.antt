@@ -83,13 +83,13 @@ steps-end start e w n done r g h k =
 
 -- an answer by its number
 pub answered :
-    (t : CollectTold) (e : Engine) (x : Answer) (m s : ℕ) (r : Reply) →
-    r ≡ plainOf e Accepted (Tail·Answer m s) →
+    (t : CollectTold) (e : Engine) (x : Answer) (m s f : ℕ) (r : Reply) →
+    r ≡ plainOf e Accepted (Tail·Answer m s f) →
     m ≡ answerNumber x →
-    t ≡ CollectTold.Answered x s →
+    t ≡ CollectTold.Answered x s f →
     r ≡ scriptCollect t e
 unfolding scriptCollect
-answered t e x m s r g h q = simp q (g ∙ ap (λ (k : ℕ). plainOf e Accepted (Tail·Answer k s)) h)
+answered t e x m s f r g h q = simp q (g ∙ ap (λ (k : ℕ). plainOf e Accepted (Tail·Answer k s f)) h)
 
 -- a writer was lent the first k of 512 bytes
 lent-length : (k n : ℕ) (l : List ℕ) → length l ≡ mostBytes → (k ≡ lentOf n) × (k ≤ mostBytes) → length (take k l) ≡ lentOf n

@@ -25,10 +25,10 @@ stepsFrom zero e w done = plainOf e Accepted (Steps done)
 stepsFrom (suc n) e w done =
     onTold (stepOf e w .told) (stepsFrom n (stepOf e w .engine) w (done + 1)) (λ r. plainOf e (Refused r) (Steps done))
 
--- answer and steps ..; `0 0` if refused
+-- answer, steps and, by request 02, the entries filled; `0 0 0` if refused
 unfoldable pub scriptCollect : CollectTold → Engine → Reply
-scriptCollect (CollectTold.Answered answer steps) e = plainOf e Accepted (Answer (answerNumber answer) steps)
-scriptCollect (CollectTold.Refused r) e = plainOf e (Refused r) (Answer 0 0)
+scriptCollect (CollectTold.Answered answer steps filled) e = plainOf e Accepted (Answer (answerNumber answer) steps filled)
+scriptCollect (CollectTold.Refused r) e = plainOf e (Refused r) (Answer 0 0 0)
 
 -- value count guard; `0 0 0` if refused
 unfoldable pub scriptWord : WordTold → Engine → Reply

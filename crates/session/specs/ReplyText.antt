@@ -1,7 +1,7 @@
 -- What is written of a call: one line, `LINE refusal place ...` in decimal with single spaces.
 mod Names
 use Names.*
-use Rattle.text.specs.Text.{newline, space, mostBytes, decimalOf, numberText, pairText, bytesText, toldText, holderText}
+use Rattle.text.specs.Text.{newline, space, mostBytes, decimalOf, numberText, threeText, bytesText, toldText, holderText}
 
 -- N at most 512
 abbrev pub lentOf : ℕ → ℕ
@@ -18,8 +18,8 @@ mostReply = 63 + mostTail
 unfoldable pub tailText : Tail → List ℕ → List ℕ
 tailText Nothing bytes = []
 tailText (Steps n) bytes = numberText n
-tailText (Answer x n) bytes = pairText x n
-tailText (Word value count guard) bytes = pairText value count ++ numberText guard
+tailText (Answer x n filled) bytes = threeText x n filled
+tailText (Word value count guard) bytes = threeText value count guard
 tailText (Lock turn h) bytes = numberText turn ++ holderText h
 tailText (Bytes written n) bytes = numberText written ++ bytesText (take (lentOf n) bytes)
 

@@ -106,11 +106,11 @@ fn collected(told: CollectTold, engine: Engine) -> Reply
     ensures { λ r. ⌜ r ≡ scriptCollect told engine ⌝ }
 {
     match told {
-        CollectTold::Answered(answer, steps) => {
+        CollectTold::Answered(answer, steps, filled) => {
             let number = answer.number();
-            plain(engine, Told::Accepted, Tail::Answer(number, steps))
+            plain(engine, Told::Accepted, Tail::Answer(number, steps, filled))
         }
-        CollectTold::Refused(r) => plain(engine, Told::Refused(r), Tail::Answer(0, 0)),
+        CollectTold::Refused(r) => plain(engine, Told::Refused(r), Tail::Answer(0, 0, 0)),
     }
 }
 

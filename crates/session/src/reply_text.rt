@@ -12,7 +12,6 @@ use text::put_bytes;
 use text::put_decimal;
 use text::put_lock;
 use text::put_number;
-use text::put_pair;
 use text::put_three;
 use text::put_told;
 use text::put_two;
@@ -21,7 +20,7 @@ use text::put_two;
 pub enum Tail {
     Nothing,
     Steps(u32),
-    Answer(u32, u32),
+    Answer(u32, u32, u32),
     Word(u32, u32, u32),
     Lock(u32, Holder),
     // How many bytes were written, and how many were lent.
@@ -57,7 +56,13 @@ fn put_tail(buf: &mut [u8], at: usize, tail: Tail, bytes: [u8; 512]) -> usize
     match tail {
         Tail::Nothing => at,
         Tail::Steps(n) => put_number(buf, at, n as u64),
-        Tail::Answer(answer, steps) => put_pair(buf, at, answer as u64, steps as u64),
+        Tail::Answer(answer, steps, filled) => put_three(
+            buf,
+            at,
+            answer as u64,
+            steps as u64,
+            filled as u64,
+        ),
         Tail::Word(value, count, guard) => put_three(
             buf,
             at,

@@ -3,9 +3,9 @@ mod Names
 use Names.*
 use Rattle.parts.specs.Instr.{asksOf, followsOf, onAsks, onFollows}
 use Rattle.parts.specs.Numbers.{lastTurn}
-use Rattle.parts.specs.Parts.{next32, registers0, readingOf, swapOf, committedOf, holdsOf, grabOf, releaseOf}
+use Rattle.parts.specs.Parts.{next32, registers0, readingOf, swapOf, committedOf, holdsOf, isFirst, grabOf, releaseOf}
 use Rattle.parts.specs.Pick.{pick, onHolder}
-use Rattle.steps.specs.Worker.{movedOf}
+use Rattle.steps.specs.Worker.{movedOf, countedOf}
 
 -- the pieces with one of them changed
 abbrev pub viewWithLock : View → LockWord → View
@@ -16,9 +16,10 @@ abbrev pub viewWithWord : View → Word → View
 viewWithWord v w =
     record { worker = v .worker; lock = v .lock; word = w; entry = v .entry; instr = v .instr; done = v .done }
 
-abbrev pub viewWithEntry : View → Entry → View
-viewWithEntry v e =
-    record { worker = v .worker; lock = v .lock; word = v .word; entry = e; instr = v .instr; done = v .done }
+-- an entry together with the worker that committed to it
+abbrev pub viewWithEntry : View → Entry → Worker → View
+viewWithEntry v e k =
+    record { worker = k; lock = v .lock; word = v .word; entry = e; instr = v .instr; done = v .done }
 
 abbrev pub viewWithDone : View → View
 viewWithDone v =
@@ -107,9 +108,11 @@ followStep v r held =
     (λ new. atOf v (Point.Run r (Swap held new)))
 
 -- "Commit: if the log entry at the place is empty it takes the value and count read; either way the worker goes on with what
--- the entry holds, and the place rises by one."
+-- the entry holds, and the place rises by one." Request 02: the worker counts an entry that it filled
 unfoldable pub commitStep : View → Run → Reading → View
-commitStep v r read = followStep (viewWithEntry v (committedOf (v .entry) read)) (loggedOf r) (holdsOf (v .entry) read)
+commitStep v r read =
+    followStep (viewWithEntry v (committedOf (v .entry) read) (countedOf (v .worker) (isFirst (v .entry)))) (loggedOf r)
+    (holdsOf (v .entry) read)
 
 -- "Swap: if the word's value and count equal the entry's, the word takes the new value and its count rises by one"
 unfoldable pub swapStep : View → Run → Reading → ℕ → View

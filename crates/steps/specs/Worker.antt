@@ -2,6 +2,7 @@
 mod Names
 use Names.*
 use Rattle.parts.specs.Parts.{next32}
+use Rattle.parts.specs.Pick.{pick}
 
 -- by the state
 abbrev pub onState : {A : Type 0} → State → A → (Point → A) → (Answer → A) → A
@@ -11,11 +12,11 @@ onState (Finished x) a f g = g x
 
 -- an idle worker; also what the array of workers has past its end
 abbrev pub worker0 : Worker
-worker0 = record { state = Idle; lock = 0; own = 0; steps = 0 }
+worker0 = record { state = Idle; lock = 0; own = 0; steps = 0; filled = 0 }
 
 -- "Begin (worker, lock, job record) takes a sheet": the worker is to look at its lock
 abbrev pub lookingOf : ℕ → ℕ → Worker
-lookingOf lock sheet = record { state = UnderWay Look; lock = lock; own = sheet; steps = 0 }
+lookingOf lock sheet = record { state = UnderWay Look; lock = lock; own = sheet; steps = 0; filled = 0 }
 
 -- A worker can't begin again until its last answer is collected or it is dropped: any other than an idle one stays.
 unfoldable pub beganOf : Worker → ℕ → ℕ → Worker
@@ -45,4 +46,15 @@ dropByState k = onState (k .state) (Refused WorkerIdle) (λ p. Accepted) (λ x. 
 
 -- one accepted step more, and the state that it leads to
 abbrev pub movedOf : Worker → State → Worker
-movedOf k s = record { state = s; lock = k .lock; own = k .own; steps = next32 (k .steps) }
+movedOf k s = record { state = s; lock = k .lock; own = k .own; steps = next32 (k .steps); filled = k .filled }
+
+-- request 02: "the entries this worker was first to fill in its try", one more where a commit was the first
+unfoldable pub countedOf : Worker → Bool → Worker
+countedOf k first =
+    record {
+      state = k .state;
+      lock = k .lock;
+      own = k .own;
+      steps = k .steps;
+      filled = pick first (next32 (k .filled)) (k .filled);
+    }

@@ -2,7 +2,7 @@
 // one instruction, one done mark. Each contract gives the result whole, by a definition of specs/.
 ghost use mathlib.Core.Path.{_≡_};
 ghost use Rattle.steps.specs.Places.{runSpot, spotOf, helpedOf};
-ghost use Rattle.steps.specs.Worker.{worker0, beganOf, collectedOf, droppedOf, beginByState, movedOf};
+ghost use Rattle.steps.specs.Worker.{worker0, beganOf, collectedOf, droppedOf, beginByState, movedOf, countedOf};
 
 pub mod trying;
 
@@ -57,12 +57,14 @@ pub enum State {
     Finished(Answer),
 }
 
-// `lock`, `own` (the own sheet) and `steps` (the accepted steps since begin) belong to the try; they are 0 where there is none.
+// `lock`, `own` (the own sheet), `steps` (the accepted steps since begin) and `filled` (the log entries that it was first to fill)
+// belong to the try; they are 0 where there is none.
 pub struct Worker {
     pub state: State,
     pub lock: u8,
     pub own: u8,
     pub steps: u32,
+    pub filled: u32,
 }
 
 // Where a step of a worker is: the sheet whose instruction, log entry and done mark it can touch, the instruction's number and
@@ -91,6 +93,7 @@ impl Worker {
             lock: 0,
             own: 0,
             steps: 0,
+            filled: 0,
         }
     }
 
@@ -105,6 +108,7 @@ impl Worker {
                 lock: lock,
                 own: sheet,
                 steps: 0,
+                filled: 0,
             },
             State::UnderWay(_) => self,
             State::Finished(_) => self,
@@ -156,7 +160,20 @@ impl Worker {
             lock: self.lock,
             own: self.own,
             steps: n,
+            filled: self.filled,
         }
+    }
+
+    // The worker after a commit that says whether it was the first: one entry more that this worker filled, or not.
+    pub fn counted(mut self, first: bool) -> Worker
+        ensures { λ r. ⌜ r ≡ countedOf self first ⌝ }
+    {
+        if first {
+            let n = std::num::wrapping_add_u32(self.filled, 1);
+            self.filled = n;
+            return self;
+        }
+        self
     }
 }
 

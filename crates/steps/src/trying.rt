@@ -174,14 +174,18 @@ impl View {
         }
     }
 
-    // 5, commit: the worker goes on with what the entry holds, and the place rises by one.
+    // 5, commit: the worker goes on with what the entry holds, and the place rises by one. It counts the entry if it filled it.
     pub fn commit(mut self, run: Run, read: Reading) -> View
         ensures { λ r. ⌜ r ≡ commitStep self run read ⌝ }
     {
         let e = self.entry;
+        let k = self.worker;
         let held = e.holds(read);
         let next = e.commit(read);
+        let first = e.is_first();
+        let counted = k.counted(first);
         self.entry = next;
+        self.worker = counted;
         self.follow(run.logged(), held)
     }
 

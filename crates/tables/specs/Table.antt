@@ -35,10 +35,11 @@ fresh = setupOf setupS .engine
 abbrev pub on : List Call → Engine
 on calls = afterAll fresh calls
 
--- collect tells the answer of this number, and so many accepted steps
-abbrev pub Answers : CollectTold → ℕ → ℕ → Type 0
-Answers (CollectTold.Answered answer counted) number steps = (answerNumber answer ≡ number) × (counted ≡ steps)
-Answers (CollectTold.Refused r) number steps = ⊥
+-- collect tells the answer of this number, so many accepted steps and, by request 02, so many entries filled
+abbrev pub Answers : CollectTold → ℕ → ℕ → ℕ → Type 0
+Answers (CollectTold.Answered answer counted first) number steps filled =
+    (answerNumber answer ≡ number) × (counted ≡ steps) × (first ≡ filled)
+Answers (CollectTold.Refused r) number steps filled = ⊥
 
 -- collect is refused, because the worker is under way
 abbrev pub StillUnderWay : CollectTold → Type 0
@@ -69,6 +70,7 @@ pub record End : Type 0 where
   pub more : ℕ
   pub answer : ℕ
   pub steps : ℕ
+  pub filled : ℕ
   pub value : ℕ
   pub count : ℕ
   pub turn : ℕ
@@ -76,7 +78,7 @@ pub record End : Type 0 where
 -- so it ends for worker w stepped alone after these calls on S, and one step earlier it is still under way
 pub record Ends (calls : List Call) (w : ℕ) (end : End) : Type 0 where
   pub before : StillUnderWay (collectOf (on (calls ++ steps (end .more - 1) w)) w .told)
-  pub told : Answers (collectOf (on (calls ++ steps (end .more) w)) w .told) (end .answer) (end .steps)
+  pub told : Answers (collectOf (on (calls ++ steps (end .more) w)) w .told) (end .answer) (end .steps) (end .filled)
   pub left : Stands (on (calls ++ steps (end .more) w)) (end .value) (end .count) (end .turn) Free
 
 -- the calls of the rows, up to the steps of the worker that a row is about
@@ -100,28 +102,28 @@ callsH = Begin 0 0 jobA ∷ steps 2 0 ++ (Begin 1 0 jobB ∷ [])
 pub record Table : Type 0 where
   pub s : setupOf setupS .told ≡ Accepted
   -- "A stepped alone": "14 steps, ran yes, word 0 = 6, count 1, turn 1"
-  pub a : Ends (Begin 0 0 jobA ∷ []) 0 (record { more = 14; answer = ranYes; steps = 14; value = 6; count = 1; turn = 1 })
+  pub a : Ends (Begin 0 0 jobA ∷ []) 0 (record { more = 14; answer = ranYes; steps = 14; filled = 2; value = 6; count = 1; turn = 1 })
   -- "B alone": "12 steps, ran no"
-  pub b : Ends (Begin 0 0 jobB ∷ []) 0 (record { more = 12; answer = ranNo; steps = 12; value = 5; count = 0; turn = 1 })
+  pub b : Ends (Begin 0 0 jobB ∷ []) 0 (record { more = 12; answer = ranNo; steps = 12; filled = 2; value = 5; count = 0; turn = 1 })
   -- "worker 0: A, 10 steps, drop": "word 0 = 5, held"
   pub c : Stands (on callsC) 5 0 1 (By 0) × NowIdle (collectOf (on callsC) 0 .told)
   -- "then worker 1: B alone": "11 steps, not taken, word 0 = 6, free"
-  pub d : Ends callsD 1 (record { more = 11; answer = notTaken; steps = 11; value = 6; count = 1; turn = 1 })
+  pub d : Ends callsD 1 (record { more = 11; answer = notTaken; steps = 11; filled = 0; value = 6; count = 1; turn = 1 })
   -- "as c, d without the drop, then worker 0 stepped to its end": "14 steps, ran yes, count 1"
   pub e :
-      Ends callsE 1 (record { more = 11; answer = notTaken; steps = 11; value = 6; count = 1; turn = 1 }) ×
-      Ends (callsE ++ steps 11 1) 0 (record { more = 4; answer = ranYes; steps = 14; value = 6; count = 1; turn = 1 })
+      Ends callsE 1 (record { more = 11; answer = notTaken; steps = 11; filled = 0; value = 6; count = 1; turn = 1 }) ×
+      Ends (callsE ++ steps 11 1) 0 (record { more = 4; answer = ranYes; steps = 14; filled = 2; value = 6; count = 1; turn = 1 })
   -- "A, 1 step, drop": "free, turn 0"
   pub f :
       StillUnderWay (collectOf (on (Begin 0 0 jobA ∷ Step 0 ∷ [])) 0 .told) ×
       Stands (on (Begin 0 0 jobA ∷ Step 0 ∷ Drop 0 ∷ [])) 5 0 0 Free ×
       NowIdle (collectOf (on (Begin 0 0 jobA ∷ Step 0 ∷ Drop 0 ∷ [])) 0 .told)
   -- "0 has A, 1 has B, both Look free, 0 grabs, then 1 alone": "worker 1: 14 steps, not taken, word 0 = 6"
-  pub g : Ends callsG 1 (record { more = 13; answer = notTaken; steps = 14; value = 6; count = 1; turn = 1 })
+  pub g : Ends callsG 1 (record { more = 13; answer = notTaken; steps = 14; filled = 2; value = 6; count = 1; turn = 1 })
   -- "0 takes 2 steps of A, 1 with B helps to the end, 0 goes on": "ran yes, count 1"
   pub h :
-      Ends callsH 1 (record { more = 11; answer = notTaken; steps = 11; value = 6; count = 1; turn = 1 }) ×
-      Ends (callsH ++ steps 11 1) 0 (record { more = 12; answer = ranYes; steps = 14; value = 6; count = 1; turn = 1 })
+      Ends callsH 1 (record { more = 11; answer = notTaken; steps = 11; filled = 2; value = 6; count = 1; turn = 1 }) ×
+      Ends (callsH ++ steps 11 1) 0 (record { more = 12; answer = ranYes; steps = 14; filled = 0; value = 6; count = 1; turn = 1 })
   -- "B with skip 2": "refused 7, place 2"
   pub i : Refusing fresh (beginOf fresh 0 0 (jobSkipping 2)) 7 2
   -- "A on lock 1": "refused 8, place 0"

@@ -77,36 +77,36 @@ pub record Reads (e : Engine) (words : List Word) (turn : ℕ) : Type 0 where
   pub word : map (readWordOf e) (0 ∷ 1 ∷ 2 ∷ 3 ∷ 4 ∷ []) ≡ map WordTold.Is words
   pub lock : readLockOf e 0 ≡ LockTold.Is (record { turn = turn; holder = Free })
 
--- stepped on V the job ends with this answer, yes or no, after so many steps and not one earlier, and leaves these words; and alone, on
--- V's values, it gives the same, so many instructions executed
-pub record Works (job : List ℕ) (yes : Bool) (stepped executed : ℕ) (words : List Word) : Type 0 where
+-- stepped on V the job ends with this answer, yes or no, after so many steps and not one earlier, has filled so many entries, and leaves
+-- these words; and alone, on V's values, it gives the same, so many instructions executed
+pub record Works (job : List ℕ) (yes : Bool) (stepped filled executed : ℕ) (words : List Word) : Type 0 where
   pub before : StillUnderWay (collectOf (steppedOn job (stepped - 1)) 0 .told)
-  pub told : collectOf (steppedOn job stepped) 0 .told ≡ CollectTold.Answered (pick yes RanYes RanNo) stepped
+  pub told : collectOf (steppedOn job stepped) 0 .told ≡ CollectTold.Answered (pick yes RanYes RanNo) stepped filled
   pub left : Reads (steppedOn job stepped) words 0x01020305
   pub alone :
       aloneOf (jobOf job) (0x44332211 ∷ 0xFEDCBA98 ∷ 5 ∷ 9 ∷ 7 ∷ []) ≡
       record { yes = yes; executed = executed; words = valuesOf words }
 
 -- Steps: 4 before the run and 2 after it; in it 3 for a store and for a cam that swaps, 2 for a load and for one that doesn't, 1 for any
--- other. Counts: one more for each store and each cam that swaps.
+-- other. Entries: one for each load, store and cam. Counts: one more for each store and each cam that swaps.
 pub record Worked : Type 0 where
   pub setup : setupOf setupV .told ≡ Accepted
   pub fresh : Reads freshV (wordWith 0x44332211 0 ∷ wordWith 0xFEDCBA98 0 ∷ wordWith 5 0 ∷ wordWith 9 0 ∷ wordWith 7 0 ∷ []) 0x01020304
   -- set: "register a becomes b + 256c"; load: "register a becomes word b"; store: "word b becomes register a"; halt: "no (a = 0)"
   pub moves :
-      Works jobMoves false 32 13
+      Works jobMoves false 32 8 13
       (wordWith 0x44332211 0 ∷ wordWith 0x0201 1 ∷ wordWith 0xF483 2 ∷ wordWith 0x44332211 1 ∷ wordWith 0xFEDCBA98 1 ∷ [])
   -- add and sub: "register a plus or minus register b, modulo 2 to the 32nd"; halt: "yes (a = 1)"
   pub sums :
-      Works jobSums true 34 14
+      Works jobSums true 34 9 14
       (wordWith 0x430FDCA9 1 ∷ wordWith 0xFEDCBA98 1 ∷ wordWith 0x45566779 1 ∷ wordWith 0x88664422 1 ∷ wordWith 0xBBCCDDEF 1 ∷ [])
   -- cam: "if word c equals register a it becomes register b"
   pub cams :
-      Works jobCams true 24 10
+      Works jobCams true 24 5 10
       (wordWith 0x44332211 0 ∷ wordWith 0xFEDCBA98 0 ∷ wordWith 5 2 ∷ wordWith 9 0 ∷ wordWith 0x0109 1 ∷ [])
   -- skip: "if registers a and b are equal, pass over the next c instructions"
   pub skips :
-      Works jobSkips false 23 11
+      Works jobSkips false 23 3 11
       (wordWith 0x44332211 0 ∷ wordWith 0x0105 1 ∷ wordWith 0x0105 1 ∷ wordWith 9 0 ∷ wordWith 0x0105 1 ∷ [])
   -- "Park writes the setup record of the present values and turns": after jobSums, into 36 bytes, of which the last stays
   pub parked :

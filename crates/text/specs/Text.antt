@@ -40,6 +40,9 @@ numberText n = space ∷ decimalOf n
 unfoldable pub pairText : ℕ → ℕ → List ℕ
 pairText m n = numberText m ++ numberText n
 
+unfoldable pub threeText : ℕ → ℕ → ℕ → List ℕ
+threeText l m n = pairText l m ++ numberText n
+
 -- bytes in lower-case hex (`-` for none)
 unfoldable pub glyphOf : ℕ → ℕ
 glyphOf d = pick (ltb d 10) (48 + d) (87 + d)

@@ -4,7 +4,7 @@ ghost use mathlib.Core.Path.{_≡_};
 ghost use Prim.Native.Nat.{_+_, _*_, _≤_, _<_};
 ghost use mathlib.Core.List.{[], _∷_, _++_};
 ghost use lib.ListN.{length};
-ghost use Rattle.text.specs.Text.{Puts, mostBytes, decimalFrom, decimalOf, numberText, pairText, glyphOf, hexText, bytesText};
+ghost use Rattle.text.specs.Text.{Puts, mostBytes, decimalFrom, decimalOf, numberText, pairText, threeText, glyphOf, hexText, bytesText};
 ghost use Rattle.text.specs.Text.{refusalText, toldText, holderText};
 use parts::Holder;
 use parts::Refusal;
@@ -71,12 +71,12 @@ pub fn put_pair(buf: &mut [u8], at: usize, m: u64, n: u64) -> usize
 }
 
 // Three numbers.
-pub fn put_three(buf: &mut [u8], at: usize, value: u64, count: u64, guard: u64) -> usize
+pub fn put_three(buf: &mut [u8], at: usize, l: u64, m: u64, n: u64) -> usize
     requires { ⌜ at + 63 ≤ length (now buf) ⌝ }
-    ensures { λ r. ⌜ Puts at 63 (pairText value count ++ numberText guard) (now (buf .entry)) (now (buf .exit)) r ⌝ }
+    ensures { λ r. ⌜ Puts at 63 (threeText l m n) (now (buf .entry)) (now (buf .exit)) r ⌝ }
 {
-    let next = put_pair(buf, at, value, count);
-    put_number(buf, next, guard)
+    let next = put_pair(buf, at, l, m);
+    put_number(buf, next, n)
 }
 
 // The lower-case digit of a number below 16.

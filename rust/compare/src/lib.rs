@@ -117,7 +117,7 @@ mod tests {
         assert!(apart >= 80 && noticed >= 70 && noticed <= apart);
     }
 
-    /// Nor is it where a third engine takes a shortcut.
+    /// Nor is it where a third engine takes a shortcut or miscounts.
     #[test]
     fn a_third_that_is_wrong() {
         for wrong in [
@@ -128,6 +128,8 @@ mod tests {
             Wrong::FreeThoughHeld,
             Wrong::HelpedFromStepFour,
             Wrong::OwnReading,
+            Wrong::EveryCommitCounts,
+            Wrong::OwnSheetCounts,
         ] {
             let third = Box::new(Second(Engine::wrong(wrong)));
             let found = compare(1, 200_000, Some(third), |_| ());

@@ -90,12 +90,12 @@ impl Calls for Second {
 
     fn collect(&mut self, worker: u32) -> Collected {
         let (number, place, given) = parts(self.0.collect(worker));
-        let (answer, steps) = given.map_or((0, 0), |(answer, steps)| (answer.number(), steps));
         Collected {
             number,
             place,
-            answer,
-            steps,
+            answer: given.map_or(0, |given| given.answer.number()),
+            steps: given.map_or(0, |given| given.steps),
+            filled: given.map_or(0, |given| given.filled),
         }
     }
 

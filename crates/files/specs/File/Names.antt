@@ -10,3 +10,4 @@ pub use Rattle.parts.specs.declared.Told.{Told}
 pub use Rattle.engine.specs.declared.CollectTold.{CollectTold}
 pub use Rattle.engine.specs.declared.Engine.{Engine}
 pub use Rattle.files.specs.declared.make.Line.{Line}
+pub use Rattle.files.specs.declared.make.Line.the-variants.{Number, Answer}

@@ -9,7 +9,7 @@ use Rattle.parts.specs.Instr.{asksOf, followsOf, wordOf}
 use Rattle.parts.specs.Lay.{lay}
 use Rattle.parts.specs.Numbers.{workers}
 use Rattle.parts.specs.Parts as parts
-use Rattle.parts.specs.Parts.{committedOf, holdsOf, registerOf, withRegister, wornOf}
+use Rattle.parts.specs.Parts.{committedOf, holdsOf, isFirst, registerOf, withRegister, wornOf}
 use Rattle.parts.specs.declared.Answer.the-variants.{RanYes, RanNo, NotTaken}
 use Rattle.parts.specs.declared.Holder.the-variants.{Free, By}
 use Rattle.parts.specs.declared.Told.the-variants.{Accepted}
@@ -33,7 +33,7 @@ use Rattle.tables.specs.Table.{setupS, jobA, jobSkipping, jobB}
 use Rattle.tables.proofs.Bytes.{setup-bytes, job-bytes, job-b-bytes}
 
 -- a history on S of one begin, n steps, and what comes after
-abbrev onS : (calls : List Call) → AllRecords calls → Past
+abbrev pub onS : (calls : List Call) → AllRecords calls → Past
 onS calls b = record { setup = setupS; calls = calls; setupBytes = setup-bytes; callsBytes = b }
 
 -- A holds lock 0, after three of its steps
@@ -68,15 +68,15 @@ pub record Met : Type 0 where
   -- free, with a job in its list; ranYes; counted
   pub free : lockAt (sofar ended .state) 0 .holder ≡ Free
   pub won : times 0 (sofar ended .won 0) ≡ 1
-  pub ranYes : collectOf (sofar ended .state) 0 .told ≡ CollectTold.Answered RanYes 14
+  pub ranYes : collectOf (sofar ended .state) 0 .told ≡ CollectTold.Answered RanYes 14 2
   -- ranNo
-  pub ranNo : collectOf (sofar endedNo .state) 0 .told ≡ CollectTold.Answered RanNo 12
+  pub ranNo : collectOf (sofar endedNo .state) 0 .told ≡ CollectTold.Answered RanNo 12 2
   -- notTaken
-  pub notTaken : collectOf (sofar rescued .state) 1 .told ≡ CollectTold.Answered NotTaken 11
+  pub notTaken : collectOf (sofar rescued .state) 1 .told ≡ CollectTold.Answered NotTaken 11 2
   pub later : AllRecords []
 
 pub met : Met
-unfolding wordsFrom asksOf followsOf wordOf lay parts.grabOf parts.releaseOf parts.swapOf committedOf holdsOf registerOf withRegister wornOf u32sOf badlyFormed codeTold instrTold instrsOf jobTold straysAt guardsTold setupTold turnsTold anyOf inUseOf lowestOf helpedOf spotOf try.answerOf try.commitStep try.effectOf try.followStep try.grabStep try.lookAgainStep try.lookStep try.markStep try.readMarkStep try.readStep try.releaseStep try.swapStep worker.beganOf worker.beginByState worker.collectByState worker.collectedOf worker.dropByState worker.droppedOf worker.stepByState beginOf beginTold begunOf collectOf dropOf freshOf setupOf stepOf blankOf placesOf putAt viewAt thenOf follow setupS jobA jobSkipping AllRecords times cutOff ended endedNo rescued
+unfolding wordsFrom asksOf followsOf wordOf lay parts.grabOf parts.releaseOf parts.swapOf committedOf holdsOf isFirst worker.countedOf registerOf withRegister wornOf u32sOf badlyFormed codeTold instrTold instrsOf jobTold straysAt guardsTold setupTold turnsTold anyOf inUseOf lowestOf helpedOf spotOf try.answerOf try.commitStep try.effectOf try.followStep try.grabStep try.lookAgainStep try.lookStep try.markStep try.readMarkStep try.readStep try.releaseStep try.swapStep worker.beganOf worker.beginByState worker.collectByState worker.collectedOf worker.dropByState worker.droppedOf worker.stepByState beginOf beginTold begunOf collectOf dropOf freshOf setupOf stepOf blankOf placesOf putAt viewAt thenOf follow setupS jobA jobSkipping AllRecords times cutOff ended endedNo rescued
 met =
     record {
       held = refl;

@@ -42,25 +42,26 @@ use Rattle.histories.proofs.simulation.Standing.{Standing, guarded, sta
 use Rattle.histories.proofs.demand.Listed.{listed-past}
 use Rattle.histories.proofs.demand.Turns.{turn-past}
 
--- what collect tells is the worker's answer and its number of steps
-pub record Tells (k : Worker) (a : Answer) (n : ℕ) : Type 0 where
+-- what collect tells is the worker's answer, its number of steps and what it filled
+pub record Tells (k : Worker) (a : Answer) (n m : ℕ) : Type 0 where
   pub state : k .state ≡ Finished a
   pub steps : n ≡ k .steps
+  pub filled : m ≡ k .filled
 
-tells : (e : Engine) (w : ℕ) (a : Answer) (n : ℕ) → collectOf e w .told ≡ CollectTold.Answered a n → Tells (workerAt e w) a n
-tells e w a n h = go (collectTold e w) refl
+pub tells : (e : Engine) (w : ℕ) (a : Answer) (n m : ℕ) → collectOf e w .told ≡ CollectTold.Answered a n m → Tells (workerAt e w) a n m
+tells e w a n m h = go (collectTold e w) refl
   where
-    go : (t : Told) → collectTold e w ≡ t → Tells (workerAt e w) a n
+    go : (t : Told) → collectTold e w ≡ t → Tells (workerAt e w) a n m
     go Accepted q =
         let end = finished-of (workerAt e w) (one-of w (steps.collectByState (workerAt e w)) q .1) in
-        let same : CollectTold.Answered (lastAnswer (workerAt e w)) (workerAt e w .steps) ≡ CollectTold.Answered a n =
+        let same : CollectTold.Answered (lastAnswer (workerAt e w)) (workerAt e w .steps) (workerAt e w .filled) ≡ CollectTold.Answered a n m =
         sym (ap (λ (o : Collected). o .told) (collect-told e w Accepted q)) ∙ h in
         let last : lastAnswer (workerAt e w) ≡ end .0 =
         ap (λ (s : State). steps.onState s NotTaken (λ p. NotTaken) (λ x. x)) (end .1) in
         let told : lastAnswer (workerAt e w) ≡ a = cc in
-        record { state = end .1 ∙ ap Finished (sym last ∙ told); steps = cc }
+        record { state = end .1 ∙ ap Finished (sym last ∙ told); steps = cc; filled = cc }
     go (Refused r) q =
-        let same : CollectTold.Refused r ≡ CollectTold.Answered a n =
+        let same : CollectTold.Refused r ≡ CollectTold.Answered a n m =
         sym (ap (λ (o : Collected). o .told) (collect-told e w (Refused r) q)) ∙ h in
         let z : _≡_ {A = ℕ} 0 1 = cc in
         absurd (omega arith)
@@ -124,37 +125,37 @@ module _ (e₀ : Engine) (u₀ : Under (rulesOf e₀) e₀) (x : Sofar) (s : Sta
 
   -- of a worker that has finished with this answer: its try, its steps
   tried :
-      (w : ℕ) (a : Answer) (n : ℕ) → collectOf (x .state) w .told ≡ CollectTold.Answered a n →
+      (w : ℕ) (a : Answer) (n m : ℕ) → collectOf (x .state) w .told ≡ CollectTold.Answered a n m →
       AnswerOk (rulesOf e₀) (taleOf x) (x .tries w) a
-  tried w a n h =
-      let t = tells (x .state) w a n h in
+  tried w a n m h =
+      let t = tells (x .state) w a n m h in
       subst
-      (Named (rulesOf e₀) (taleOf x) (viewOf (sceneOf (x .state)) (s .next .st)) (x .tries w) (workerAt (x .state) w))
+      (Named (rulesOf e₀) (taleOf x) (viewOf (sceneOf (x .state)) (s .next .st)) (x .tries w) (sceneOf (x .state) .worker w))
       (t .state) (s .next .ok .named w) .1
 
   ran-told :
-      (w n : ℕ) (said : Bool) → collectOf (x .state) w .told ≡ CollectTold.Answered (pick said RanYes RanNo) n →
+      (w n m : ℕ) (said : Bool) → collectOf (x .state) w .told ≡ CollectTold.Answered (pick said RanYes RanNo) n m →
       RanOnce e₀ x (x .tries w) said
-  ran-told w n true h = ran-once w true (tried w RanYes n h)
-  ran-told w n false h = ran-once w false (tried w RanNo n h)
+  ran-told w n m true h = ran-once w true (tried w RanYes n m h)
+  ran-told w n m false h = ran-once w false (tried w RanNo n m h)
 
   -- what a worker has done, and has left, in its state
   state-ok : (w : ℕ) (t : State) → workerAt (x .state) w .state ≡ t →
-      StateOk (rulesOf e₀) (viewOf (sceneOf (x .state)) (s .next .st)) (workerAt (x .state) w) t
+      StateOk (rulesOf e₀) (viewOf (sceneOf (x .state)) (s .next .st)) (sceneOf (x .state) .worker w) t
   state-ok w t h =
-      subst (StateOk (rulesOf e₀) (viewOf (sceneOf (x .state)) (s .next .st)) (workerAt (x .state) w)) h
+      subst (StateOk (rulesOf e₀) (viewOf (sceneOf (x .state)) (s .next .st)) (sceneOf (x .state) .worker w)) h
       (s .next .ok .worker w)
 
   counts :
-      (w : ℕ) (a : Answer) (n : ℕ) → collectOf (x .state) w .told ≡ CollectTold.Answered a n →
+      (w : ℕ) (a : Answer) (n m : ℕ) → collectOf (x .state) w .told ≡ CollectTold.Answered a n m →
       (n ≡ x .steps w) × (n ≤ trySteps instructions)
-  counts w a n h =
-      let t = tells (x .state) w a n h in
+  counts w a n m h =
+      let t = tells (x .state) w a n m h in
       (t .steps ∙ s .counted w (rw (t .state) tt), omega (arith, t .steps, state-ok w (Finished a) (t .state)))
 
   goes-on : (w : ℕ) (p : Point) → w < workers → workerAt (x .state) w .state ≡ UnderWay p → GoesOn (x .state) w
   goes-on w p h e =
-      let k = workerAt (x .state) w in
+      let k = sceneOf (x .state) .worker w in
       let to = stepped-worker (rulesOf e₀) (sceneOf (x .state)) w k p in
       let is = step-scene (rulesOf e₀) x s w p h e in
       record {
@@ -184,10 +185,10 @@ demand-3 p =
                 e seat idle bytes job;
             ran = ran-told e₀ u₀ x s;
             notTaken =
-                λ w n e more b l.
+                λ w n m e more b l.
                 over-follow (rulesOf e₀) x more (x .tries w .number) s b
                 (over-told (rulesOf e₀) (sceneOf (x .state)) (taleOf x) (s .next .st) (s .next .ok) w
-                (tells (x .state) w NotTaken n e .state))
+                (tells (x .state) w NotTaken n m e .state))
                 .none l;
             listed = listed-past p;
             once = s .next .ok .once;

@@ -58,7 +58,7 @@ step-accepted e w p h q = ap (λ (o : Outcome). o .told) (step-told e w Accepted
 
 pub step-scene :
     (K : Rules) (x : Sofar) → Standing K x → (w : ℕ) (p : Point) → w < workers → workerAt (x .state) w .state ≡ UnderWay p →
-    sceneOf (stepOf (x .state) w .engine) ≡ stepAt K (sceneOf (x .state)) w (workerAt (x .state) w) p
+    sceneOf (stepOf (x .state) w .engine) ≡ stepAt K (sceneOf (x .state)) w (sceneOf (x .state) .worker w) p
 step-scene K x s w p h q =
     ap (λ (o : Outcome). sceneOf (o .engine)) (step-told (x .state) w Accepted (told-in (x .state) w h (UnderWay p) q)) ∙
     ap (λ (t : State). sceneOf (steps.onState t (x .state) (λ p. steppedOf (x .state) w p) (λ y. x .state))) q ∙

@@ -8,6 +8,7 @@ use Rattle.parts.specs.Numbers.{instructions, lastTurn}
 use Rattle.parts.specs.Parts.{entry0, readingOf}
 use Rattle.parts.specs.Pick.{pick}
 use Rattle.parts.specs.declared.Fill.the-variants.{Empty}
+use Rattle.steps.specs.declared.Worker.{Worker}
 use Rattle.engine.specs.State.{sheet0, wordCount, workerAt, lockAt, wordAt, wordsOf, baseOf, programOf}
 use Rattle.engine.specs.declared.Engine.{Engine}
 use Rattle.helping.specs.Machine.{Rules, Scene, Tale}
@@ -23,6 +24,10 @@ rulesOf e =
       last = lastTurn;
     }
 
+-- a worker, but for what it filled: the theory does not look at that
+abbrev pub handOf : Worker → Worker
+handOf k = record { state = k .state; lock = k .lock; own = k .own; steps = k .steps; filled = 0 }
+
 -- the scene of a state. A sheet's log has no more entries than a job has instructions.
 abbrev pub sceneOf : Engine → Scene
 sceneOf e =
@@ -32,7 +37,7 @@ sceneOf e =
       program = λ s. programOf e s;
       done = λ s. getD (e .sheet) s sheet0 .done;
       log = λ s p. pick (ltb p instructions) (getD (e .entry) (baseOf s + p) entry0 .fill) Empty;
-      worker = λ w. workerAt e w;
+      worker = λ w. handOf (workerAt e w);
     }
 
 -- the tale of a history

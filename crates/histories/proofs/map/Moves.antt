@@ -9,7 +9,7 @@ use borrow.Author.Tests.{eqb-true}
 use Rattle.parts.specs.Instr.{asksOf, followsOf, onAsks, onFollows, wordOf}
 use Rattle.parts.specs.Numbers.{lastTurn}
 use Rattle.parts.specs.Parts as parts
-use Rattle.parts.specs.Parts.{next32, readingOf, committedOf, holdsOf}
+use Rattle.parts.specs.Parts.{next32, readingOf, committedOf, holdsOf, isFirst}
 use Rattle.parts.specs.Pick.{pick, onHolder, onFill}
 use Rattle.parts.specs.declared.Answer.the-variants.{NotTaken}
 use Rattle.parts.specs.declared.Asks.{Asks}
@@ -30,6 +30,7 @@ use Rattle.parts.proofs.Touch.{touch-word}
 use Rattle.steps.specs.Try as steps
 use Rattle.steps.specs.Try.{viewWithEntry, toOf, atOf, startOf, lookStep, readMarkStep}
 use Rattle.steps.specs.Worker as workers
+use Rattle.steps.specs.Worker.{countedOf}
 use Rattle.steps.specs.declared.Point.{Point}
 use Rattle.steps.specs.declared.Point.the-variants.{Grab}
 use Rattle.steps.specs.declared.Run.{Run}
@@ -41,12 +42,13 @@ use Rattle.steps.specs.declared.Worker.{Worker}
 use Rattle.helping.specs.Ideal.{Logs, Touches, farOf}
 use Rattle.helping.specs.Machine as machine
 use Rattle.helping.specs.Machine.{Shared, Act, fin, go, touch, actOf, target, put, heldOf, machineMoved, machineOnto, machineLogged, pointOf, lookTo, markTo}
+use Rattle.histories.proofs.map.Map.{handOf}
 
 -- one step more, the next instruction, the next entry
-pub moved-is : (k : Worker) (s : State) → k .steps + 1 < 2 ^ 32 → workers.movedOf k s ≡ machineMoved k s
+pub moved-is : (k : Worker) (s : State) → k .steps + 1 < 2 ^ 32 → handOf (workers.movedOf k s) ≡ machineMoved k s
 moved-is k s h =
     let n : next32 (k .steps) ≡ suc (k .steps) = omega arith in
-    λ i. record { state = s; lock = k .lock; own = k .own; steps = n i }
+    λ i. record { state = s; lock = k .lock; own = k .own; steps = n i; filled = 0 }
 
 pub onto-is : (r : Run) (over : ℕ) (rs : Registers) → r .next + suc over < 2 ^ 8 → steps.ontoOf r over rs ≡ machineOnto r over rs
 onto-is r over rs h =
@@ -178,10 +180,10 @@ pub commit-is :
     r .next + 1 < 2 ^ 8 →
     r .place + 1 < 2 ^ 8 →
     steps.commitStep v r u ≡
-    atOf (viewWithEntry v (committedOf (v .entry) u)) (pointOf (machine.machineCommit (actOf (v .instr) (r .registers)) x r u))
+    atOf (viewWithEntry v (committedOf (v .entry) u) (countedOf (v .worker) (isFirst (v .entry)))) (pointOf (machine.machineCommit (actOf (v .instr) (r .registers)) x r u))
 unfolding actOf steps.commitStep steps.followStep holdsOf
 commit-is v r u x t e h k =
-    let now = viewWithEntry v (committedOf (v .entry) u) in
+    let now = viewWithEntry v (committedOf (v .entry) u) (countedOf (v .worker) (isFirst (v .entry))) in
     let held = heldOf (v .entry .fill) u in
     ap (λ (r : Run). steps.followStep now r held) (logged-is r k) ∙
     follow-is now x (machineLogged r) held (followsOf (v .instr) (r .registers) (held .value)) h ∙

@@ -30,7 +30,7 @@ use Rattle.helping.specs.Machine.{Scene, put}
 use Rattle.ranges.specs.Good.{Good}
 use Rattle.ranges.proofs.Programs.{beside, put-program}
 use Rattle.ranges.proofs.Laid.{lay-there, part-lay}
-use Rattle.histories.proofs.map.Map.{sceneOf}
+use Rattle.histories.proofs.map.Map.{handOf, sceneOf}
 
 -- a function that is x at i, and elsewhere f
 pub put-by :
@@ -138,7 +138,7 @@ module _ (e : Engine) (g : Good e) (at : Places) (p : ℕ) (z : Within at) (h : 
       sceneOf e .program ≡ F .program →
       put (sceneOf e .done) (at .sheet) (v .done) ≡ F .done →
       put (sceneOf e .log) (at .sheet) (put (sceneOf e .log (at .sheet)) p (v .entry .fill)) ≡ F .log →
-      put (sceneOf e .worker) (at .worker) (v .worker) ≡ F .worker →
+      put (sceneOf e .worker) (at .worker) (handOf (v .worker)) ≡ F .worker →
       sceneOf (putAt e at v) ≡ F
   unfolding putAt
   put-scene v F a b c d f k =
@@ -149,7 +149,7 @@ module _ (e : Engine) (g : Good e) (at : Places) (p : ℕ) (z : Within at) (h : 
       let done = set-put (λ (x : Sheet). x .done) (e .sheet) (at .sheet) sheet sheet0 (omega (arith, z .sheet, n .sheet)) in
       let log : sceneOf (putAt e at v) .log ≡ _ =
       ap (λ (k : ℕ). logsOf (set (e .entry) k (v .entry))) q ∙ set-log (e .entry) (at .sheet) p (v .entry) (n .entry) (z .sheet) h in
-      let worker = set-put (λ (x : Worker). x) (e .worker) (at .worker) (v .worker) worker0 (omega (arith, z .worker, n .worker)) in
+      let worker = set-put handOf (e .worker) (at .worker) (v .worker) worker0 (omega (arith, z .worker, n .worker)) in
       λ i.
       record {
         word = (word ∙ a) i;

@@ -7,7 +7,7 @@ use mathlib.Core.List.{List}
 use lib.ListN.{length}
 use Rattle.parts.specs.Numbers.{workers, instructions, lastTurn}
 use Rattle.parts.specs.Parts as parts
-use Rattle.parts.specs.Parts.{next32, readingOf, committedOf}
+use Rattle.parts.specs.Parts.{next32, readingOf, committedOf, isFirst}
 use Rattle.parts.specs.declared.Fill.{Fill}
 use Rattle.parts.specs.declared.Fill.the-variants.{Filled}
 use Rattle.parts.specs.declared.Instr.{Instr}
@@ -18,7 +18,7 @@ use Rattle.steps.specs.Places.{spotOf}
 use Rattle.steps.specs.Try as steps
 use Rattle.steps.specs.Try.{viewWithLock, viewWithWord, viewWithEntry, viewWithDone, toOf, atOf, effectOf}
 use Rattle.steps.specs.Worker as tries
-use Rattle.steps.specs.Worker.{worker0, lookingOf, beganOf}
+use Rattle.steps.specs.Worker.{worker0, lookingOf, beganOf, countedOf}
 use Rattle.steps.specs.declared.Point.{Point}
 use Rattle.steps.specs.declared.Point.the-variants.{Look, Grab, LookAgain, ReadMark}
 use Rattle.steps.specs.declared.Run.{Run}
@@ -41,7 +41,7 @@ use Rattle.helping.specs.Machine.{Rules, Scene, Shared, Pace, put, actOf, targe
 use Rattle.helping.specs.Ok.{Ranged}
 use Rattle.ranges.specs.Good.{Good}
 use Rattle.ranges.proofs.Programs.{begun-program, looks, begun-job}
-use Rattle.histories.proofs.map.Map.{sceneOf, Under}
+use Rattle.histories.proofs.map.Map.{handOf, sceneOf, Under}
 use Rattle.histories.proofs.map.Moves.{moved-is, onto-is, look-is, grab-is, mark-is, read-is, read-keeps, committed-is, commit-is, commit-shares, swap-is}
 use Rattle.histories.proofs.map.Put.{put-by, set-put, lay-log, put-scene}
 use Rattle.histories.proofs.map.Spots.{exactOf, viewOf, word-back, lock-back, done-back, entry-is, entry-back, log-back, actIn, places-are, place-in, exact-in, run-at}
@@ -50,7 +50,7 @@ module _ (K : Rules) (e : Engine) (g : Good e) (u : Under K e) (r : Ranged K (sc
   -- a step that leaves the pieces of v, and the worker in state s: each part of the scene has its piece put in
   stepped :
       {W : ℕ → Reading} {L : ℕ → LockWord} {D : ℕ → Bool} {M : ℕ → ℕ → Fill} (p : Point) → workerAt e w .state ≡ UnderWay p →
-      (v : View) (s : State) → effectOf p (viewOf e w p) ≡ toOf v s → v .worker ≡ workerAt e w →
+      (v : View) (s : State) → effectOf p (viewOf e w p) ≡ toOf v s → handOf (v .worker) ≡ handOf (workerAt e w) →
       put (sceneOf e .word) (placesOf e w p .word) (readingOf (v .word)) ≡ W →
       put (sceneOf e .lock) (workerAt e w .lock) (v .lock) ≡ L →
       put (sceneOf e .done) (spotAt e w p .sheet) (v .done) ≡ D →
@@ -72,7 +72,7 @@ module _ (K : Rules) (e : Engine) (g : Good e) (u : Under K e) (r : Ranged K (sc
       ap (λ (x : View). sceneOf (putAt e (exactOf e w p) x)) f ∙
       put-scene e g (exactOf e w p) (spotAt e w p .place) (exact-in K e g u w h p q i) (place-in K e g u w h p q i) refl (toOf v s) _
       a b refl c d
-      (ap (λ (x : Worker). put (sceneOf e .worker) w (tries.movedOf x s)) k ∙
+      (ap (λ (x : Worker). put (sceneOf e .worker) w (handOf (tries.movedOf x s))) k ∙
       ap (λ (x : Worker). put (sceneOf e .worker) w x) (moved-is (workerAt e w) s n))
 
   place-of : (p : Point) → workerAt e w .state ≡ UnderWay p → spotAt e w p .place < instructions
@@ -99,7 +99,7 @@ module _ (K : Rules) (e : Engine) (g : Good e) (u : Under K e) (r : Ranged K (sc
 
   read-at :
       (c : Run) → workerAt e w .state ≡ UnderWay (Point.Run c Read) →
-      sceneOf (steppedOf e w (Point.Run c Read)) ≡ stepAt K (sceneOf e) w (workerAt e w) (Point.Run c Read)
+      sceneOf (steppedOf e w (Point.Run c Read)) ≡ stepAt K (sceneOf e) w (handOf (workerAt e w)) (Point.Run c Read)
   unfolding stepAt paceOf effectOf viewAt spotOf
   read-at c q =
       let p = Point.Run c Read in
@@ -117,8 +117,8 @@ module _ (K : Rules) (e : Engine) (g : Good e) (u : Under K e) (r : Ranged K (sc
 
   commit-at :
       (c : Run) (y : Reading) → workerAt e w .state ≡ UnderWay (Point.Run c (Commit y)) →
-      sceneOf (steppedOf e w (Point.Run c (Commit y))) ≡ stepAt K (sceneOf e) w (workerAt e w) (Point.Run c (Commit y))
-  unfolding stepAt paceOf effectOf viewAt spotOf
+      sceneOf (steppedOf e w (Point.Run c (Commit y))) ≡ stepAt K (sceneOf e) w (handOf (workerAt e w)) (Point.Run c (Commit y))
+  unfolding stepAt paceOf effectOf viewAt spotOf countedOf
   commit-at c y q =
       let p = Point.Run c (Commit y) in
       let i = r .point w p q in
@@ -131,7 +131,7 @@ module _ (K : Rules) (e : Engine) (g : Good e) (u : Under K e) (r : Ranged K (sc
       let filled : committedOf (v .entry) y .fill ≡ Filled (heldOf (x .log (c .place)) y) =
       committed-is (v .entry) y ∙ ap (λ (s : Fill). Filled (heldOf s y)) (sym z) in
       let to = machine.machineCommit act x c y in
-      stepped p q (viewWithEntry v (committedOf (v .entry) y)) (UnderWay (pointOf to))
+      stepped p q (viewWithEntry v (committedOf (v .entry) y) (countedOf (v .worker) (isFirst (v .entry)))) (UnderWay (pointOf to))
       (commit-is v c y x t z (omega (arith, a .far)) (omega (arith, a .place))) refl (word-back e w p) (lock-back e w p)
       (done-back e w p) (ap (λ (s : Fill). put (sceneOf e .log) (c .sheet) (put (x .log) (c .place) s)) filled) ∙
       ap (λ (s : Shared). pacedBy c (record { shared = s; run = to .run; stage = to .stage }))
@@ -140,7 +140,7 @@ module _ (K : Rules) (e : Engine) (g : Good e) (u : Under K e) (r : Ranged K (sc
 
   swap-at :
       (c : Run) (y : Reading) (new : ℕ) → workerAt e w .state ≡ UnderWay (Point.Run c (Swap y new)) →
-      sceneOf (steppedOf e w (Point.Run c (Swap y new))) ≡ stepAt K (sceneOf e) w (workerAt e w) (Point.Run c (Swap y new))
+      sceneOf (steppedOf e w (Point.Run c (Swap y new))) ≡ stepAt K (sceneOf e) w (handOf (workerAt e w)) (Point.Run c (Swap y new))
   unfolding stepAt paceOf effectOf viewAt spotOf steps.swapStep
   swap-at c y new q =
       let p = Point.Run c (Swap y new) in
@@ -172,7 +172,7 @@ module _ (K : Rules) (e : Engine) (g : Good e) (u : Under K e) (r : Ranged K (sc
 
   pub step-at :
       (p : Point) → workerAt e w .state ≡ UnderWay p →
-      sceneOf (steppedOf e w p) ≡ stepAt K (sceneOf e) w (workerAt e w) p
+      sceneOf (steppedOf e w p) ≡ stepAt K (sceneOf e) w (handOf (workerAt e w)) p
   unfolding stepAt effectOf viewAt spotOf steps.grabStep steps.lookAgainStep steps.markStep steps.releaseStep parts.releaseOf machine.machineRelease
   step-at Look q =
       before-run Look (lookTo lastTurn (lockAt e (workerAt e w .lock))) q (look-is (viewOf e w Look)) ∙
@@ -194,7 +194,7 @@ module _ (K : Rules) (e : Engine) (g : Good e) (u : Under K e) (r : Ranged K (sc
 
 pub step-is :
     (K : Rules) (e : Engine) → Good e → Under K e → Ranged K (sceneOf e) → (w : ℕ) (p : Point) → w < workers →
-    workerAt e w .state ≡ UnderWay p → sceneOf (steppedOf e w p) ≡ stepAt K (sceneOf e) w (workerAt e w) p
+    workerAt e w .state ≡ UnderWay p → sceneOf (steppedOf e w p) ≡ stepAt K (sceneOf e) w (handOf (workerAt e w)) p
 step-is K e g u r w p h q = step-at K e g u r w h p q
 
 pub begin-is :
@@ -212,8 +212,8 @@ begin-is e g w l rec b =
     let done = set-put (λ (x : Sheet). x .done) (e .sheet) s job sheet0 (omega (arith, b .sheet, n .sheet)) in
     let log = lay-log (e .entry) s (n .entry) (b .sheet) in
     let worker : sceneOf (takenOf e w l rec) .worker ≡ put (sceneOf e .worker) w (lookingOf l s) =
-    set-put (λ (x : Worker). x) (e .worker) w k worker0 (omega (arith, b .worker, n .worker)) ∙
-    ap (λ (x : Worker). put (sceneOf e .worker) w x) (looks (workerAt e w) l s (b .idle)) in
+    set-put handOf (e .worker) w k worker0 (omega (arith, b .worker, n .worker)) ∙
+    ap (λ (x : Worker). put (sceneOf e .worker) w (handOf x)) (looks (workerAt e w) l s (b .idle)) in
     λ i.
     record {
       word = sceneOf e .word;
@@ -226,7 +226,7 @@ begin-is e g w l rec b =
 
 pub idle-is : (e : Engine) → Good e → (w : ℕ) → w < workers → sceneOf (withWorker e w worker0) ≡ idledOf (sceneOf e) w
 idle-is e g w h =
-    let worker = set-put (λ (x : Worker). x) (e .worker) w worker0 worker0 (omega (arith, g .lengths .worker)) in
+    let worker = set-put handOf (e .worker) w worker0 worker0 (omega (arith, g .lengths .worker)) in
     λ i.
     record {
       word = sceneOf e .word;

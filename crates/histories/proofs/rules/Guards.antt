@@ -30,7 +30,7 @@ use Rattle.ranges.proofs.Frame.{pick-all, state-all, told-all}
 use Rattle.ranges.proofs.Laid.{set-same}
 
 -- by the case of a holder: where each way has it
-holder-each :
+pub holder-each :
     {A : Type 0} (P : A → Type 0) (h : Holder) (a : A) (f : ℕ → A) → P a → ((s : ℕ) → P (f s)) → P (onHolder h a f)
 holder-each P Free a f p q = p
 holder-each P (By s) a f p q = q s

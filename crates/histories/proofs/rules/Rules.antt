@@ -50,7 +50,7 @@ use Rattle.ranges.proofs.Frame.{All, pick-all, replicate-all, told-all, below-o
 use Rattle.histories.proofs.rules.Guards.{guards-after}
 use Rattle.ranges.proofs.Keep.{good-setup}
 use Rattle.ranges.proofs.Laid.{lay-first}
-use Rattle.histories.proofs.map.Map.{rulesOf, sceneOf, Under}
+use Rattle.histories.proofs.map.Map.{handOf, rulesOf, sceneOf, Under}
 use Rattle.ranges.proofs.Fresh.{from-length, fresh-counts, fresh-free}
 use Rattle.histories.proofs.rules.Room.{room}
 use Rattle.histories.proofs.rules.Spare.{spare-past}
@@ -84,7 +84,7 @@ unfolding blankOf
 made-fresh e g s t w l c p =
     record {
       idle =
-          λ i. ap (λ (ks : List Worker). getD ks i worker0) w ∙ replicate-all (λ k. k ≡ worker0) workers worker0 refl i;
+          λ i. ap handOf (ap (λ (ks : List Worker). getD ks i worker0) w ∙ replicate-all (λ k. k ≡ worker0) workers worker0 refl i);
       free = λ k. (l k, g .lock k .turn);
       value = λ q. sym (List·getD-map (λ (x : Word). x .value) (wordsOf e) q word0 ∙ ap (λ (x : Word). x .value) (at q));
       count = c;

@@ -86,7 +86,7 @@ standing-then K x c s b =
     }
 
 -- a history
-cut-records : (c : Call) (cs : List Call) → AllRecords (c ∷ cs) → AllRecords (c ∷ []) × AllRecords cs
+pub cut-records : (c : Call) (cs : List Call) → AllRecords (c ∷ cs) → AllRecords (c ∷ []) × AllRecords cs
 unfolding AllRecords
 cut-records (Begin w l rec) cs b = ((b .0, tt), b .1)
 cut-records (Step w) cs b = (tt, b)

@@ -1,5 +1,5 @@
 -- What History.antt goes by and does not list itself: the library's symbols, the generated types and their cases, definitions of parts.
-pub use Prim.Native.Nat.{ℕ, suc, _+_, _%_, _^_, _≤_, _<_}
+pub use Prim.Native.Nat.{ℕ, suc, _+_, _/_, _%_, _^_, _≤_, _<_}
 pub use mathlib.Core.Path.{_≡_}
 pub use mathlib.Core.Logic.{_≢_}
 pub use mathlib.Core.Bool.{Bool, true, false}
@@ -9,7 +9,7 @@ pub use lib.ListN.{getD, length}
 pub use Rattle.parts.specs.Instr.{asksOf, wordOf}
 pub use Rattle.parts.specs.Numbers.{workers, mostLocks, mostWords, sheets, instructions, lastTurn, trySteps, helpSteps}
 pub use Rattle.parts.specs.Parts.{instr0, next32, registerOf}
-pub use Rattle.parts.specs.Pick.{pick, onHolder}
+pub use Rattle.parts.specs.Pick.{pick, _or_, onHolder}
 pub use Rattle.parts.specs.Told.{onTold}
 pub use Rattle.parts.specs.declared.Answer.{Answer}
 pub use Rattle.parts.specs.declared.Answer.the-variants.{RanYes, RanNo, NotTaken}

@@ -9,3 +9,4 @@ pub use Rattle.parts.specs.declared.Told.the-variants.{Accepted, Refused}
 pub use Rattle.engine.specs.declared.Engine.{Engine}
 pub use Rattle.engine.specs.declared.WriteTold.{WriteTold}
 pub use Rattle.files.specs.declared.make.Line.{Line}
+pub use Rattle.files.specs.declared.make.Line.the-variants.{Number}

@@ -5,4 +5,5 @@ pub use mathlib.Core.List.{List, [], _∷_, _++_}
 pub use lib.ListN.{replicate, take, drop}
 pub use Rattle.parts.specs.declared.Told.the-variants.{Refused}
 pub use Rattle.files.specs.declared.make.Line.{Line}
+pub use Rattle.files.specs.declared.make.Line.the-variants.{Answer}
 pub use Rattle.parts.specs.declared.Refusal.the-variants.{NoWorker, WorkerIdle, Length, Kind, CallRecord}

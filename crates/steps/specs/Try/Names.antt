@@ -17,3 +17,4 @@ pub use Rattle.steps.specs.declared.Stage.the-variants.{Read, Commit, Sw
 pub use Rattle.steps.specs.declared.State.{State}
 pub use Rattle.steps.specs.declared.State.the-variants.{UnderWay, Finished}
 pub use Rattle.steps.specs.declared.View.{View}
+pub use Rattle.steps.specs.declared.Worker.{Worker}

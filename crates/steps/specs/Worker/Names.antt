@@ -1,5 +1,6 @@
 -- What Worker.antt goes by and does not list itself: the library's symbols, the generated types and their cases.
 pub use Prim.Native.Nat.{ℕ}
+pub use mathlib.Core.Bool.{Bool}
 pub use Rattle.parts.specs.declared.Answer.{Answer}
 pub use Rattle.parts.specs.declared.Refusal.the-variants.{WorkerUnderWay, NotCollected, WorkerIdle}
 pub use Rattle.parts.specs.declared.Told.{Told}

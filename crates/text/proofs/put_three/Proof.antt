@@ -1,12 +1,12 @@
 -- What is put is the text of each call, one after the other.
 use borrow.Author.Needs.{needs}
-use Rattle.text.specs.Text.{pairText, numberText}
+use Rattle.text.specs.Text.{pairText, threeText, numberText}
 use Rattle.text.proofs.Written.{writing}
 use Rattle.text.proofs.put_three.Statement.{statement}
 use Rattle.text.proofs.put_three.Tie as tie
 
 pub put-three-spec : {M : Type 1} → statement M
-unfolding pairText numberText
+unfolding pairText threeText numberText
 put-three-spec =
     tie.close
     (tie.spec

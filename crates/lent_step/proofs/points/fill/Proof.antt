@@ -1,6 +1,7 @@
 -- By what the entry is.
 use borrow.Author.Needs.{needs}
 use Rattle.parts.proofs.Laws.{laws}
+use Rattle.lent_step.proofs.Fills.{fills}
 use Rattle.lent_step.specs.Points.{entryFilled}
 use Rattle.lent_step.proofs.points.fill.Statement.{statement}
 use Rattle.lent_step.proofs.points.fill.Tie as tie
@@ -12,7 +13,8 @@ fill-spec =
     (tie.spec
     (λ c. search needs)
     (λ c κs. search needs)
+    (λ c κs. search needs)
     (λ c. search needs)
     (λ c. search needs)
-    (λ c. search laws)
+    (λ c. search fills)
     (λ c. search laws))
