@@ -5,5 +5,7 @@ pub mod Fills
 pub mod Kept
 pub mod Begun
 pub mod Moved
+pub mod Keep
+pub mod Over
 pub mod Filled
 pub mod Exhibit

@@ -14,15 +14,15 @@ use Rattle.steps.specs.declared.State.the-variants.{Idle, UnderWay, Finished}
 use Rattle.steps.specs.declared.State.{State}
 use Rattle.alone.specs.Jobs.{Try}
 
--- a filling: in the log of which job, by a step of which try (each by the number of its begin), at which instruction, and what the
--- entry holds since
+-- a filling: in the log of which job, by a step of which try (each by the number of its begin); and, for request 09, at which instruction
+-- of the job, and what the entry was filled with
 pub record Filling : Type 0 where
   pub job : ℕ
   pub by : ℕ
   pub instruction : ℕ
   pub what : Reading
 
--- what was filled between two states, of their entries from number n on
+-- what was filled between two states, by their entries, of which the first has the number n
 unfoldable pub newFrom : (ℕ → Reading → Filling) → ℕ → List Entry → List Entry → List Filling
 newFrom make n [] now = []
 newFrom make n (x ∷ before) [] = []

@@ -14,7 +14,8 @@ use Rattle.past.specs.Past.{Call, Begin, Step, Collect, Drop, ReadWord, ReadLoc
 
 -- 1. WHAT A HISTORY COMES TO: the state; how many begins were accepted; the try of each worker's last accepted begin, and the
 -- accepted steps of that worker since; the tries that won each lock, the latest first. For request 02: the tries that took each sheet,
--- the latest first; every filling of a log entry, the latest first; and whether a try ran the job of another, or its own, each by number.
+-- the latest first; every filling of a log entry, the latest first; and of each try, by its number, whether it made a step in a run of the
+-- job of a try, its own or another, by that one's number.
 pub record Sofar : Type 0 where
   pub state : Engine
   pub begins : ℕ
@@ -200,7 +201,8 @@ PointUncut e (LookAgain won) = Unit {0}
 PointUncut e (ReadMark seen won) = Unit {0}
 PointUncut e (Point.Run r at) = RunUncut e r
 
--- of worker w, under way at p: its lock is one of the L locks, its own sheet is a sheet, its count of steps rises by one
+-- of worker w, under way at p: its lock is one of the L locks, its own sheet is a sheet, its count of steps rises by one (so does that of
+-- the entries filled: `kept` of Filled.antt)
 pub record WorkerUncut (e : Engine) (w : ℕ) (p : Point) : Type 0 where
   pub below : workerAt e w .lock < e .locks
   pub lock : workerAt e w .lock % mostLocks ≡ workerAt e w .lock
@@ -246,7 +248,7 @@ pub record Promised (e₀ : Engine) (x : Sofar) : Type 0 where
   pub once : (n l : ℕ) → times n (x .won l) ≤ 1
   pub only : (n l m : ℕ) → 1 ≤ times n (x .won l) → 1 ≤ times n (x .won m) → l ≡ m
   pub turn : (l : ℕ) → lockAt (x .state) l .turn ≡ lockAt e₀ l .turn + length (x .won l)
-  -- "every try ends within 100 of its own steps": while it is under way it has made fewer, and can make the next
+  -- "Every try ends within 100 of its own steps": while it is under way it has made fewer, and can make the next
   pub ends :
       (w : ℕ) (p : Point) → w < workers → workerAt (x .state) w .state ≡ UnderWay p →
       (x .steps w < trySteps instructions) × GoesOn (x .state) w

@@ -63,8 +63,8 @@ followNumbers s w i held =
     (pick (eqb (registerOf (registersNow s w) (i .a)) (held .value))
     (toSwap s w held (registerOf (registersNow s w) (i .b))) (logged s w)))
 
--- commit: an entry that is empty takes what was read; either way the worker goes on with what the entry holds
--- The worker that fills the entry counts it
+-- commit: an entry that is empty takes what was read; either way the worker goes on with what the entry holds; the worker that fills the
+-- entry counts it
 unfoldable pub entryFilled : List ℕ → ℕ → ℕ → Entry → Reading → List ℕ
 entryFilled s w j e read = onFill (e .fill) (putEntry (counted s w) j (record { fill = Filled read })) (λ held. s)
 

@@ -55,7 +55,7 @@ committedOf e read = onFill (e .fill) (record { fill = Filled read }) (λ first.
 unfoldable pub holdsOf : Entry → Reading → Reading
 holdsOf e read = onFill (e .fill) read (λ first. first)
 
--- request 02: "Commit also says whether this worker filled the entry"
+-- request 02: "Commit also says whether this worker filled the entry", by the entry before the commit
 unfoldable pub isFirst : Entry → Bool
 isFirst e = onFill (e .fill) true (λ first. false)
 

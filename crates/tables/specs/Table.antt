@@ -37,8 +37,7 @@ on calls = afterAll fresh calls
 
 -- collect tells the answer of this number, so many accepted steps and, by request 02, so many entries filled
 abbrev pub Answers : CollectTold → ℕ → ℕ → ℕ → Type 0
-Answers (CollectTold.Answered answer counted first) number steps filled =
-    (answerNumber answer ≡ number) × (counted ≡ steps) × (first ≡ filled)
+Answers (CollectTold.Answered answer n m) number steps filled = (answerNumber answer ≡ number) × (n ≡ steps) × (m ≡ filled)
 Answers (CollectTold.Refused r) number steps filled = ⊥
 
 -- collect is refused, because the worker is under way
@@ -64,8 +63,8 @@ ranNo = 2
 abbrev pub notTaken : ℕ
 notTaken = 3
 
--- how a worker's try ends: after this many steps more, with the answer of this number, all its steps since begin; the value and
--- count of word 0 then, and the turn of lock 0, which is free
+-- how a worker's try ends: after this many steps more, with the answer of this number, all its steps since begin, the entries that it
+-- filled; the value and count of word 0 then, and the turn of lock 0, which is free
 pub record End : Type 0 where
   pub more : ℕ
   pub answer : ℕ

@@ -1,39 +1,31 @@
 -- A worker made idle, and an accepted begin, keep it.
-use Prim.Native.Nat.{ℕ, zero, suc, _+_, _%_, _^_, _<_, _≤_}
+use Prim.Native.Nat.{ℕ, suc, _<_, _≤_}
 use mathlib.Core.Bool.{Bool, true, false}
-use mathlib.Core.List.{List, [], _∷_, _++_}
+use mathlib.Core.List.{List, _∷_}
 use mathlib.Core.Path.{_≡_, refl, sym, ap, _∙_, subst}
 use native.Mathlib.Omega.{arith}
 use borrow.Author.Tests.{eqb-true, eqb-false, eq-eqb, ne-eqb}
 use lib.Dec.{eqb}
-use lib.ListN.{getD, set, length}
-use lib.Seq.{getD-set-same, getD-set-other}
-use Rattle.parts.specs.Numbers.{workers, sheets, instructions, trySteps}
-use Rattle.parts.specs.Parts.{next32, lock0}
-use Rattle.parts.specs.Pick.{pick, _or_, onHolder}
-use Rattle.parts.specs.declared.Holder.{Holder}
-use Rattle.parts.specs.declared.Holder.the-variants.{Free, By}
-use Rattle.alone.specs.Jobs.{Try}
+use lib.ListN.{length}
+use Rattle.parts.specs.Numbers.{workers}
+use Rattle.parts.specs.Pick.{pick, _or_}
+use Rattle.parts.specs.declared.Holder.the-variants.{By}
 use Rattle.steps.specs.Places.{helpedOf}
-use Rattle.steps.specs.Try.{effectOf}
 use Rattle.steps.specs.Worker.{worker0, lookingOf, beganOf}
-use Rattle.steps.specs.declared.Point.{Point}
 use Rattle.steps.specs.declared.State.{State}
 use Rattle.steps.specs.declared.State.the-variants.{Idle, UnderWay, Finished}
-use Rattle.steps.specs.declared.View.{View}
 use Rattle.steps.specs.declared.Worker.{Worker}
 use Rattle.engine.specs.Calls.{takenOf, begunOf}
 use Rattle.engine.specs.Inner.{Begins}
-use Rattle.engine.specs.State.{freeSheet, workerAt, lockAt, withWorker}
-use Rattle.engine.specs.Step.{placesOf, viewAt, putAt, steppedOf}
+use Rattle.engine.specs.State.{freeSheet, workerAt, withWorker}
 use Rattle.engine.specs.declared.Engine.{Engine}
-use Rattle.helping.specs.Machine.{Rules, put}
+use Rattle.helping.specs.Machine.{put}
 use Rattle.helping.specs.Ok.{NotIdle}
 use Rattle.ranges.specs.Good.{Good}
 use Rattle.ranges.proofs.Programs.{looks}
-use Rattle.histories.specs.Filled.{madeBy, madeFor, filledEntries}
-use Rattle.histories.specs.Filling.{Filling, latest, runsSheet}
-use Rattle.histories.specs.History.{Sofar, newTry, began, filledBy, runsJob, stepped, andNow}
+use Rattle.histories.specs.Filled.{madeFor, filledEntries}
+use Rattle.histories.specs.Filling.{latest}
+use Rattle.histories.specs.History.{Sofar, newTry, began, andNow}
 use Rattle.histories.proofs.map.Put.{set-put}
 use Rattle.histories.proofs.rules.Rules.{free-unused}
 use Rattle.histories.proofs.filled.Entries.{emptied-here, emptied-there}
@@ -41,7 +33,7 @@ use Rattle.histories.proofs.filled.Goes.{helpedIn, not-free}
 use Rattle.histories.proofs.filled.Kept.{Ledger, ledgerOf, Owned, Under, Hand, Keeps, Kept, hand-grows, made-grows, none-by, none-for}
 
 -- the workers after one was put
-worker-put : (e : Engine) → Good e → (w : ℕ) (k : Worker) → w < workers → (v : ℕ) → workerAt (withWorker e w k) v ≡ put (workerAt e) w k v
+pub worker-put : (e : Engine) → Good e → (w : ℕ) (k : Worker) → w < workers → (v : ℕ) → workerAt (withWorker e w k) v ≡ put (workerAt e) w k v
 worker-put e g w k h v = ap (λ (f : ℕ → Worker). f v) (set-put (λ (x : Worker). x) (e .worker) w k worker0 (omega (arith, g .lengths .worker)))
 
 -- a worker made idle
@@ -57,6 +49,7 @@ idled-keeps x g w h o =
       owner = o .owner;
       apart = o .apart;
       sheet = o .sheet;
+      bare = o .bare;
     }
   where
     go :
@@ -89,7 +82,7 @@ module _ (x : Sofar) (g : Good (x .state)) (w l : ℕ) (rec : List ℕ) (b : Beg
         ran = x .ran;
       }
 
-  worker-now : (v : ℕ) → workerAt now v ≡ put (workerAt e) w (lookingOf l s₀) v
+  pub worker-now : (v : ℕ) → workerAt now v ≡ put (workerAt e) w (lookingOf l s₀) v
   unfolding begunOf
   worker-now v =
       worker-put e g w (beganOf (workerAt e w) l s₀) (b .worker) v ∙
@@ -197,6 +190,20 @@ module _ (x : Sofar) (g : Good (x .state)) (w l : ℕ) (rec : List ℕ) (b : Beg
           ap made (latest-there s n) ∙ o .sheet s (owned-back s n h) ∙
           sym (emptied-there (e .entry) s₀ (g .lengths .entry) (b .sheet) s n)
 
+  bare-now : (s : ℕ) → length (M .owners s) ≡ 0 → filledEntries now s ≡ 0
+  unfolding begunOf
+  bare-now s h = go (eqb s s₀) refl
+    where
+      go : (t : Bool) → eqb s s₀ ≡ t → filledEntries now s ≡ 0
+      go true z =
+          let n = ap (λ (t : ℕ). length (M .owners t)) (eqb-true s s₀ z) in
+          let m = owned-new in
+          absurd (omega arith)
+      go false z =
+          let n = eqb-false s s₀ z in
+          emptied-there (e .entry) s₀ (g .lengths .entry) (b .sheet) s n ∙
+          o .bare s (subst (λ (t : Bool). length (pick t (newTry x l rec ∷ x .owners s) (x .owners s)) ≡ 0) z h)
+
   begun-by : Keeps M now (λ v. pick (eqb v w) (newTry x l rec) (x .tries v) .number) (λ v. pick (eqb v w) 0 (x .steps v))
   unfolding begunOf
   begun-by =
@@ -215,6 +222,7 @@ module _ (x : Sofar) (g : Good (x .state)) (w l : ℕ) (rec : List ℕ) (b : Beg
         owner = owner-now;
         apart = apart-now;
         sheet = sheet-now;
+        bare = bare-now;
       }
 
   pub begun-keeps : Kept (began x w l rec now)

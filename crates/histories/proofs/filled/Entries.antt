@@ -1,11 +1,11 @@
 -- One entry put into the array of entries: what was filled by that, and the filled entries of each sheet; and a log that is emptied.
-use Prim.Native.Nat.{ℕ, zero, suc, _+_, _*_, _<_, _≤_}
+use Prim.Native.Nat.{ℕ, zero, suc, _+_, _<_}
 use mathlib.Core.Bool.{Bool, true, false}
 use mathlib.Core.List.{List, [], _∷_}
 use mathlib.Core.Path.{_≡_, refl, sym, ap, _∙_}
 use native.Mathlib.Omega.{arith}
 use borrow.Author.Tests.{eqb-true, eqb-false, eq-eqb, ne-eqb, lt-ltb}
-use lib.Dec.{eqb, ltb}
+use lib.Dec.{eqb}
 use lib.ListN.{getD, set, length, replicate}
 use lib.Seq.{getD-set-same, getD-set-other}
 use Rattle.parts.specs.Lay.{lay}
@@ -105,7 +105,7 @@ unfolding sumOf
 sum-none zero = refl
 sum-none (suc n) = let q = sum-none n in omega arith
 
-log-at : (l : List Entry) (t p : ℕ) → p < instructions → logsOf l t p ≡ getD l (baseOf t + p) entry0 .fill
+pub log-at : (l : List Entry) (t p : ℕ) → p < instructions → logsOf l t p ≡ getD l (baseOf t + p) entry0 .fill
 log-at l t p b = simp (lt-ltb p instructions b)
 
 module _ (l : List Entry) (s : ℕ) (n : length l ≡ entries) (h : s < sheets) where

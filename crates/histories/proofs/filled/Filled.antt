@@ -1,70 +1,36 @@
--- Request 02 of every history: from the setup on, by what each call keeps.
-use Prim.Native.Nat.{ℕ, zero, suc, _+_, _<_, _≤_}
+-- Request 02 of every history, by what each call keeps.
+use Prim.Native.Nat.{ℕ, suc, _+_, _≤_}
 use mathlib.Core.Bool.{Bool, true, false}
-use mathlib.Core.List.{List, [], _∷_}
+use mathlib.Core.List.{List, [], _∷_, _++_}
 use mathlib.Core.Logic.{_≢_}
 use mathlib.Core.Path.{_≡_, refl, sym, ap, _∙_, subst}
 use native.Mathlib.Omega.{arith}
-use borrow.Author.Tests.{eqb-true, eqb-false, eq-eqb, ne-eqb}
+use borrow.Author.Tests.{eq-eqb, ne-eqb}
 use lib.Dec.{eqb}
 use lib.ListN.{length}
 use Rattle.parts.specs.Pick.{pick}
-use Rattle.records.specs.Bytes.{AllBytes}
+use Rattle.parts.specs.declared.Answer.{Answer}
 use Rattle.alone.specs.Jobs.{Try}
+use Rattle.steps.specs.declared.Point.{Point}
 use Rattle.steps.specs.declared.State.{State}
 use Rattle.steps.specs.declared.State.the-variants.{Idle, UnderWay, Finished}
-use Rattle.steps.specs.declared.Worker.{Worker}
-use Rattle.engine.specs.Calls.{setupOf}
+use Rattle.engine.specs.Calls.{collectOf}
 use Rattle.engine.specs.State.{workerAt}
-use Rattle.past.specs.Past.{Call, AllRecords, Past}
+use Rattle.engine.specs.declared.CollectTold.{CollectTold}
+use Rattle.engine.specs.declared.Engine.{Engine}
+use Rattle.past.specs.Past.{Call, Drop, AllRecords, Past}
 use Rattle.helping.specs.Machine.{Rules}
 use Rattle.helping.specs.Ok.{NotIdle}
 use Rattle.histories.specs.Filled.{madeBy, madeFor, sumOf, filledEntries, numberOf, Shares}
 use Rattle.histories.specs.Filling.{Filling, latest}
-use Rattle.histories.specs.History.{Sofar, start, thenOf, follow, sofar}
+use Rattle.histories.specs.History.{Sofar, thenOf, follow, sofar}
 use Rattle.histories.proofs.demand.Demand.{tells}
-use Rattle.histories.proofs.rules.Rules.{fresh-is}
-use Rattle.histories.proofs.simulation.Comes as comes
-use Rattle.histories.proofs.simulation.Comes.{Comes}
-use Rattle.histories.proofs.simulation.Standing.{Standing, standing-then, standing-start, cut-records}
-use Rattle.histories.proofs.filled.Begun.{idled-keeps, begun-keeps}
+use Rattle.histories.proofs.simulation.Comes.{comes}
+use Rattle.histories.proofs.simulation.Standing.{Standing, standing-then, standing-past}
 use Rattle.histories.proofs.filled.Entries.{sum-same, sum-but, sum-none}
-use Rattle.histories.proofs.filled.Goes.{not-free}
+use Rattle.histories.proofs.filled.Keep.{comes-keeps, kept-past}
 use Rattle.histories.proofs.filled.Kept.{Ledger, ledgerOf, Made, AllMade, Kept}
-use Rattle.histories.proofs.filled.Moved.{moved-keeps}
-
--- a call, and a history
-comes-keeps : (K : Rules) (x y : Sofar) → Standing K x → Kept x → Comes x y → Kept y
-comes-keeps K x y s o (comes.same q) = subst Kept (sym q) o
-comes-keeps K x y s o (comes.begun w l rec b q) = subst Kept (sym q) (begun-keeps x (s .good) w l rec b o)
-comes-keeps K x y s o (comes.moved w p h e q) = subst Kept (sym q) (moved-keeps K x s w h p e o)
-comes-keeps K x y s o (comes.idled w h q) = subst Kept (sym q) (idled-keeps x (s .good) w h o)
-
-kept-follow : (K : Rules) (x : Sofar) (h : List Call) → Standing K x → AllRecords h → Kept x → Kept (follow x h)
-unfolding follow
-kept-follow K x [] s b o = o
-kept-follow K x (c ∷ cs) s b o =
-    let cut = cut-records c cs b in
-    kept-follow K (thenOf x c) cs (standing-then K x c s (cut .0)) (cut .1) (comes-keeps K x (thenOf x c) s o (comes.comes x c))
-
-kept-start : (rec : List ℕ) → AllBytes rec → Kept (start (setupOf rec .engine))
-kept-start rec b =
-    let fresh = fresh-is rec b in
-    record {
-      hands = λ w y. absurd (subst (λ (k : Worker). NotIdle (k .state)) (fresh .idle w) y);
-      locks = λ l s h. absurd (not-free s (sym (fresh .free l .0) ∙ h));
-      made = tt;
-      born = λ n j h. let z : _≡_ {A = ℕ} 0 1 = cc in absurd (omega arith);
-      one = λ n i j h k. let z : _≡_ {A = ℕ} 0 1 = cc in absurd (omega arith);
-      owner = λ s h. absurd (omega arith);
-      apart = λ s t h k e. absurd (omega arith);
-      sheet = λ s h. absurd (omega arith);
-    }
-
-pub kept-past : (p : Past) → Kept (sofar p)
-kept-past p =
-    kept-follow _ (start (setupOf (p .setup) .engine)) (p .calls) (standing-start (p .setup) (p .setupBytes)) (p .callsBytes)
-    (kept-start (p .setup) (p .setupBytes))
+use Rattle.histories.proofs.filled.Over.{Gone, still-follow, dropped-still}
 
 -- The numbers of the tries that ran a job add up to its fillings: each filling is of one try, which ran that job and no other.
 module _ (L : Ledger) (one : (n i j : ℕ) → L .ran n i ≡ true → L .ran n j ≡ true → i ≡ j) (j : ℕ) where
@@ -121,24 +87,68 @@ busy Idle h = h refl
 busy (UnderWay p) h = tt
 busy (Finished x) h = tt
 
+one-made : (L : Ledger) (later : List Filling) (f : Filling) (earlier : List Filling) → AllMade L (later ++ (f ∷ earlier)) → Made L f
+one-made L [] f earlier a = a .0
+one-made L (g ∷ later) f earlier a = one-made L later f earlier (a .1)
+
+module _ (K : Rules) (x : Sofar) (s : Standing K x) (o : Kept x) where
+  abbrev e : Engine
+  e = x .state
+
+  sheet-of :
+      (s : ℕ) (t : Try) (earlier : List Try) → x .owners s ≡ t ∷ earlier → madeFor (t .number) (x .fillings) ≡ filledEntries e s
+  sheet-of s t earlier q =
+      ap (λ (ts : List Try). madeFor (latest ts) (x .fillings)) (sym q) ∙
+      o .sheet s (subst (λ (ts : List Try). 1 ≤ length ts) (sym q) (omega arith))
+
+  -- no worker but w has the try of w; and w is not under way
+  gone-by : (w : ℕ) → NotIdle (workerAt e w .state) → ((p : Point) → workerAt e w .state ≢ UnderWay p) → Gone x (x .tries w .number)
+  gone-by w y h =
+      record {
+        born = s .next .ok .begun w y;
+        none =
+            λ v p q m.
+            h p (ap (λ (n : ℕ). workerAt e n .state) (sym (s .next .ok .ids v w (subst NotIdle (sym q) tt) y m)) ∙ q);
+      }
+
+  told-of :
+      (w : ℕ) (a : Answer) (n m : ℕ) → collectOf e w .told ≡ CollectTold.Answered a n m → (more : List Call) → AllRecords more →
+      m ≡ numberOf (follow x more) (x .tries w .number)
+  told-of w a n m h more b =
+      let t = tells e w a n m h in
+      let y = subst NotIdle (sym (t .state)) tt in
+      t .filled ∙ o .hands w y .count ∙
+      sym (still-follow K x more (x .tries w .number) s b o (gone-by w y (λ p q. ended (sym (t .state) ∙ q))))
+    where
+      ended : {a : Answer} {p : Point} → Finished a ≡ UnderWay p → ⊥
+      ended z = let z : _≡_ {A = ℕ} 0 1 = cc in omega arith
+
+  lost-of :
+      (w : ℕ) → NotIdle (workerAt e w .state) → (more : List Call) → AllRecords more →
+      workerAt e w .filled ≡ numberOf (follow (thenOf x (Drop w)) more) (x .tries w .number)
+  unfolding AllRecords
+  lost-of w y more b =
+      let d = dropped-still K x s w y in
+      o .hands w y .count ∙
+      sym
+      (still-follow K (thenOf x (Drop w)) more (x .tries w .number) (standing-then K x (Drop w) s tt) b
+      (comes-keeps K x (thenOf x (Drop w)) s o (comes x (Drop w))) (d .gone) ∙
+      d .number)
+
 pub shares : (p : Past) → Shares (sofar p)
 shares p =
     let x = sofar p in
+    let s = standing-past p in
     let o = kept-past p in
     record {
-      told =
-          λ w a n m h.
-          let t = tells (x .state) w a n m h in
-          t .filled ∙ o .hands w (subst NotIdle (sym (t .state)) tt) .count;
+      told = told-of _ x s o;
       kept = λ w h. o .hands w (busy (workerAt (x .state) w .state) h) .count;
-      sheet = λ s t earlier h q. sheet-of x o s t earlier q;
+      lost = λ w h. lost-of _ x s o w (busy (workerAt (x .state) w .state) h);
+      made =
+          λ later f earlier q.
+          one-made (ledgerOf x) later f earlier (subst (λ (fs : List Filling). AllMade (ledgerOf x) fs) q (o .made)) .ran;
+      sheet = sheet-of _ x s o;
+      bare = λ k q. o .bare k (ap (λ (ts : List Try). length ts) q);
       one = o .one;
-      adds = λ s t earlier h q. all-shares (ledgerOf x) (o .one) (t .number) (x .fillings) (o .made) ∙ sheet-of x o s t earlier q;
+      adds = λ k t earlier q. all-shares (ledgerOf x) (o .one) (t .number) (x .fillings) (o .made) ∙ sheet-of _ x s o k t earlier q;
     }
-  where
-    sheet-of :
-        (x : Sofar) → Kept x → (s : ℕ) (t : Try) (earlier : List Try) → x .owners s ≡ t ∷ earlier →
-        madeFor (t .number) (x .fillings) ≡ filledEntries (x .state) s
-    sheet-of x o s t earlier q =
-        ap (λ (ts : List Try). madeFor (latest ts) (x .fillings)) (sym q) ∙
-        o .sheet s (subst (λ (ts : List Try). 1 ≤ length ts) (sym q) (omega arith))

@@ -1,16 +1,15 @@
 -- An accepted step of the whole state: the entries that it fills, the worker's count, and the filled entries of each sheet.
-use Prim.Native.Nat.{ℕ, suc, _+_, _*_, _/_, _%_, _<_}
-use mathlib.Core.List.{List, [], _∷_}
+use Prim.Native.Nat.{ℕ, suc, _+_, _/_, _%_, _<_}
+use mathlib.Core.List.{[], _∷_}
 use mathlib.Core.Path.{_≡_, refl, sym, ap, _∙_, subst}
 use native.Mathlib.Omega.{arith}
 use borrow.Author.Tests.{eqb-true, eqb-false}
 use mathlib.Core.Bool.{Bool, true, false}
 use lib.Dec.{eqb}
-use lib.ListN.{getD, set, length}
+use lib.ListN.{length}
 use lib.Seq.{getD-set-same}
 use Rattle.parts.specs.Numbers.{workers, sheets, instructions, entries}
-use Rattle.parts.specs.Parts.{entry0, next32}
-use Rattle.parts.specs.declared.Entry.{Entry}
+use Rattle.parts.specs.Parts.{next32}
 use Rattle.parts.specs.declared.Fill.{Fill}
 use Rattle.parts.specs.declared.Fill.the-variants.{Empty, Filled}
 use Rattle.parts.specs.declared.Holder.the-variants.{By}
@@ -21,7 +20,6 @@ use Rattle.steps.specs.Worker.{worker0}
 use Rattle.steps.specs.declared.Point.{Point}
 use Rattle.steps.specs.declared.Run.{Run}
 use Rattle.steps.specs.declared.Stage.{Stage}
-use Rattle.steps.specs.declared.State.{State}
 use Rattle.steps.specs.declared.State.the-variants.{UnderWay}
 use Rattle.steps.specs.declared.View.{View}
 use Rattle.steps.specs.declared.Worker.{Worker}
@@ -31,7 +29,7 @@ use Rattle.engine.specs.declared.Engine.{Engine}
 use Rattle.ranges.specs.Good.{GoodPoint, Good}
 use Rattle.ranges.proofs.Keep.{point-good}
 use Rattle.histories.specs.Filled.{filledEntries}
-use Rattle.histories.specs.Filling.{Filling, newFrom, latest, runsSheet, runsAt}
+use Rattle.histories.specs.Filling.{Filling, latest, runsSheet, runsAt}
 use Rattle.histories.specs.History.{Sofar, filledBy}
 use Rattle.histories.proofs.filled.Entries.{marked, filledAt, new-set, filled-here, filled-there}
 use Rattle.histories.proofs.filled.Goes.{Touch, none, one}

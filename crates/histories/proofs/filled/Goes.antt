@@ -1,7 +1,7 @@
 -- One step on its pieces: whether it fills the entry, and which sheets are named and run after it.
 use Prim.Native.Nat.{ℕ}
 use mathlib.Core.Bool.{Bool, true, false}
-use mathlib.Core.Path.{_≡_, refl, sym, ap, _∙_, subst}
+use mathlib.Core.Path.{_≡_, refl, ap, _∙_, subst}
 use native.Mathlib.Omega.{arith}
 use lib.Dec.{eqb}
 use Rattle.parts.specs.Instr.{asksOf, followsOf}
@@ -17,7 +17,7 @@ use Rattle.parts.specs.declared.LockWord.{LockWord}
 use Rattle.parts.specs.declared.Reading.{Reading}
 use Rattle.alone.proofs.Bounds.{asks-all, follows-all}
 use Rattle.steps.specs.Places.{helpedOf}
-use Rattle.steps.specs.Try.{toOf, atOf, startOf, loggedOf, viewWithEntry, lookStep, grabStep, lookAgainStep, readMarkStep, readStep, followStep, commitStep, swapStep, markStep, releaseStep, effectOf}
+use Rattle.steps.specs.Try.{toOf, atOf, startOf, viewWithEntry, lookStep, grabStep, lookAgainStep, readMarkStep, readStep, followStep, commitStep, swapStep, markStep, releaseStep, effectOf}
 use Rattle.steps.specs.Worker.{countedOf}
 use Rattle.steps.specs.declared.Point.{Point}
 use Rattle.steps.specs.declared.Point.the-variants.{Look, Grab, LookAgain, ReadMark}

@@ -1,15 +1,14 @@
 -- What every call keeps of who filled what, and how it grows.
-use Prim.Native.Nat.{ℕ, zero, suc, _+_, _<_, _≤_}
-use mathlib.Core.Bool.{Bool, true, false}
+use Prim.Native.Nat.{ℕ, _<_, _≤_}
+use mathlib.Core.Bool.{Bool, true}
 use mathlib.Core.List.{List, [], _∷_}
-use mathlib.Core.Path.{_≡_, refl, sym, ap, _∙_, subst}
+use mathlib.Core.Path.{_≡_, refl, sym, ap, _∙_}
 use native.Mathlib.Omega.{arith}
-use borrow.Author.Tests.{eqb-true, eqb-false, eq-eqb, ne-eqb}
-use lib.Dec.{eqb}
+use borrow.Author.Tests.{ne-eqb}
 use lib.ListN.{length}
-use Rattle.parts.specs.Pick.{pick, onHolder}
+use Rattle.parts.specs.Pick.{onHolder}
 use Rattle.parts.specs.declared.Holder.{Holder}
-use Rattle.parts.specs.declared.Holder.the-variants.{Free, By}
+use Rattle.parts.specs.declared.Holder.the-variants.{By}
 use Rattle.alone.specs.Jobs.{Try}
 use Rattle.steps.specs.Places.{helpedOf}
 use Rattle.steps.specs.declared.Point.{Point}
@@ -20,7 +19,7 @@ use Rattle.steps.specs.declared.Worker.{Worker}
 use Rattle.engine.specs.State.{workerAt, lockAt}
 use Rattle.engine.specs.declared.Engine.{Engine}
 use Rattle.helping.specs.Ok.{NotIdle}
-use Rattle.histories.specs.Filled.{madeBy, madeFor, sumOf, filledEntries}
+use Rattle.histories.specs.Filled.{madeBy, madeFor, filledEntries}
 use Rattle.histories.specs.Filling.{Filling, latest, runsSheet}
 use Rattle.histories.specs.History.{Sofar}
 use Rattle.histories.proofs.filled.Goes.{helpedIn, not-free}
@@ -76,6 +75,7 @@ pub record Keeps (L : Ledger) (e : Engine) (tries steps : ℕ → ℕ) : Type 0 
   pub owner : (s : ℕ) → Owned L s → latest (L .owners s) < L .begins
   pub apart : (s t : ℕ) → Owned L s → Owned L t → latest (L .owners s) ≡ latest (L .owners t) → s ≡ t
   pub sheet : (s : ℕ) → Owned L s → madeFor (latest (L .owners s)) (L .fillings) ≡ filledEntries e s
+  pub bare : (s : ℕ) → length (L .owners s) ≡ 0 → filledEntries e s ≡ 0
 
 abbrev pub Kept : Sofar → Type 0
 Kept x = Keeps (ledgerOf x) (x .state) (λ w. x .tries w .number) (x .steps)

@@ -1,20 +1,19 @@
 -- An accepted step keeps it.
-use Prim.Native.Nat.{ℕ, zero, suc, _+_, _%_, _^_, _<_, _≤_}
+use Prim.Native.Nat.{ℕ, suc, _+_, _<_, _≤_}
 use mathlib.Core.Bool.{Bool, true, false}
-use mathlib.Core.List.{List, [], _∷_, _++_}
+use mathlib.Core.List.{List, _∷_, _++_}
 use mathlib.Core.Path.{_≡_, refl, sym, ap, _∙_, subst}
 use native.Mathlib.Omega.{arith}
 use borrow.Author.Tests.{eqb-true, eqb-false, eq-eqb, ne-eqb}
 use lib.Dec.{eqb}
-use lib.ListN.{getD, set, length}
+use lib.ListN.{length}
 use lib.Seq.{getD-set-same, getD-set-other}
-use Rattle.parts.specs.Numbers.{workers, mostLocks, instructions, trySteps}
+use Rattle.parts.specs.Numbers.{workers, instructions, trySteps}
 use Rattle.parts.specs.Parts.{next32, lock0}
 use Rattle.parts.specs.Pick.{pick, _or_, onHolder}
 use Rattle.parts.specs.declared.Holder.{Holder}
 use Rattle.parts.specs.declared.Holder.the-variants.{Free, By}
 use Rattle.parts.specs.declared.LockWord.{LockWord}
-use Rattle.steps.specs.Places.{helpedOf}
 use Rattle.steps.specs.Try.{effectOf}
 use Rattle.steps.specs.Worker.{worker0}
 use Rattle.steps.specs.declared.Point.{Point}
@@ -28,15 +27,14 @@ use Rattle.engine.specs.declared.Engine.{Engine}
 use Rattle.helping.specs.Machine.{Rules, put}
 use Rattle.helping.specs.Ok.{NotIdle}
 use Rattle.helping.proofs.Ranges.{ranged}
-use Rattle.ranges.specs.Good.{Good}
 use Rattle.histories.specs.Filled.{madeBy, madeFor, filledEntries}
 use Rattle.histories.specs.Filling.{Filling, latest, runsSheet}
-use Rattle.histories.specs.History.{Sofar, filledBy, runsJob, stepped}
+use Rattle.histories.specs.History.{Sofar, runsJob, stepped}
 use Rattle.histories.proofs.map.Put.{set-put}
 use Rattle.histories.proofs.simulation.Standing.{Standing}
 use Rattle.histories.proofs.filled.Fills.{Fills, nothing, entry, stepped-fills}
-use Rattle.histories.proofs.filled.Goes.{Goes, Runs, helpedIn, not-free, effect-goes}
-use Rattle.histories.proofs.filled.Kept.{Ledger, ledgerOf, Owned, Under, RunsOn, Hand, Made, AllMade, Keeps, Kept, runs-helped, runs-one, hand-grows, made-grows}
+use Rattle.histories.proofs.filled.Goes.{Goes, Runs, helpedIn, effect-goes}
+use Rattle.histories.proofs.filled.Kept.{Ledger, ledgerOf, Owned, Under, RunsOn, Hand, AllMade, Keeps, Kept, runs-helped, runs-one, hand-grows, made-grows}
 
 or-true : (a b : Bool) → b ≡ true → (a or b) ≡ true
 or-true true b h = refl
@@ -81,7 +79,7 @@ module _ (K : Rules) (x : Sofar) (st : Standing K x) (w : ℕ) (h : w < workers)
       effect-goes v (Owned L) (λ s z. o .locks _ s z) (hand .own) p
       (λ s z. hand .helped s (ap helpedIn q ∙ z))
 
-  fills : Fills x w now
+  pub fills : Fills x w now
   fills = stepped-fills x (st .good) w h p q (goes .touch)
 
   worker-now : (n : ℕ) → workerAt now n ≡ put (workerAt e) w (effectOf p v .worker) n
@@ -161,7 +159,7 @@ module _ (K : Rules) (x : Sofar) (st : Standing K x) (w : ℕ) (h : w < workers)
   worker-here : workerAt now w ≡ effectOf p v .worker
   worker-here = worker-now w ∙ ap (λ (b : Bool). pick b (effectOf p v .worker) (workerAt e w)) (eq-eqb w w refl)
 
-  worker-there : (n : ℕ) → (n ≡ w → ⊥) → workerAt now n ≡ workerAt e n
+  pub worker-there : (n : ℕ) → (n ≡ w → ⊥) → workerAt now n ≡ workerAt e n
   worker-there n d = worker-now n ∙ ap (λ (b : Bool). pick b (effectOf p v .worker) (workerAt e n)) (ne-eqb n w d)
 
   own-here : Owned L (effectOf p v .worker .own)
@@ -175,7 +173,8 @@ module _ (K : Rules) (x : Sofar) (st : Standing K x) (w : ℕ) (h : w < workers)
 
   module _ (fs : List Filling) (count : workerAt now w .filled ≡ madeBy t₀ fs) (low : workerAt now w .filled ≤ suc (x .steps w))
       (others : (n : ℕ) → (n ≡ t₀ → ⊥) → madeBy n fs ≡ madeBy n (x .fillings)) (made : AllMade (N fs) fs)
-      (sheet : (s : ℕ) → Owned L s → madeFor (latest (x .owners s)) fs ≡ filledEntries now s) where
+      (sheet : (s : ℕ) → Owned L s → madeFor (latest (x .owners s)) fs ≡ filledEntries now s)
+      (bare : (s : ℕ) → length (x .owners s) ≡ 0 → filledEntries now s ≡ 0) where
     hand-here : Hand (N fs) (effectOf p v .worker) t₀ (suc (x .steps w))
     hand-here =
         let y = ap (λ (k : Worker). k .filled) worker-here in
@@ -225,6 +224,7 @@ module _ (K : Rules) (x : Sofar) (st : Standing K x) (w : ℕ) (h : w < workers)
           owner = o .owner;
           apart = o .apart;
           sheet = sheet;
+          bare = bare;
         }
 
   -- the worker's count is far from its end: it is at most the steps of the try
@@ -243,6 +243,7 @@ module _ (K : Rules) (x : Sofar) (st : Standing K x) (w : ℕ) (h : w < workers)
       let low = hand .low in
       keeps-with (x .fillings) (b ∙ hand .count) (omega arith) (λ n d. refl)
       (made-grows L (N (x .fillings)) (x .fillings) (omega arith) ran-grows (o .made)) (λ s y. o .sheet s y ∙ sym (c s))
+      (λ s y. c s ∙ o .bare s y)
 
   -- where it fills an entry of sheet s
   module _ (s : ℕ) (f : Filling) (at : runsSheet (workerAt e w .state) ≡ By s) (job : f .job ≡ latest (x .owners s)) (by : f .by ≡ t₀)
@@ -296,8 +297,13 @@ module _ (K : Rules) (x : Sofar) (st : Standing K x) (w : ℕ) (h : w < workers)
             let d = o .sheet t y in
             simp (ne-eqb (f .job) (latest (x .owners t)) (λ m. n (o .apart t s y owned (sym m ∙ job)))) (omega arith)
 
+    bare-more : (t : ℕ) → length (x .owners t) ≡ 0 → filledEntries now t ≡ 0
+    bare-more t y =
+        let other : t ≡ s → ⊥ = λ z. let a = owned in let c = ap (λ (m : ℕ). length (x .owners m)) z in omega arith in
+        there t other ∙ o .bare t y
+
     entry-by : Keeps (N fs) now (λ n. x .tries n .number) stepsNow
-    entry-by = let a = one-more in let low = hand .low in keeps-with fs count-more (omega arith) others-more made-more sheet-more
+    entry-by = let a = one-more in let low = hand .low in keeps-with fs count-more (omega arith) others-more made-more sheet-more bare-more
 
   pub moved-keeps : Kept (stepped x w now)
   moved-keeps = by-fills fills

@@ -19,7 +19,6 @@ use Rattle.parts.specs.declared.LockWord.{LockWord}
 use Rattle.parts.specs.declared.Word.{Word}
 use Rattle.steps.specs.Worker.{worker0}
 use Rattle.steps.specs.declared.View.{View}
-use Rattle.steps.specs.declared.Worker.{Worker}
 use Rattle.engine.specs.State.{sheet0, baseOf}
 use Rattle.engine.specs.Step.{putAt}
 use Rattle.engine.specs.Inner.{Within}

@@ -1,6 +1,6 @@
 -- What a call comes to, by what it told: a begin, a step or a worker made idle that was accepted, or nothing new.
 use Prim.Native.Nat.{ℕ, _<_}
-use mathlib.Core.Path.{_≡_, refl, sym, ap, _∙_, subst}
+use mathlib.Core.Path.{_≡_, refl, ap, _∙_}
 use mathlib.Core.List.{List}
 use Rattle.parts.specs.Numbers.{workers}
 use Rattle.parts.specs.declared.Told.{Told}
