@@ -192,7 +192,7 @@ static chant_reply finish(struct worker *w, uint8_t answer) {
 static chant_reply look(struct plain *e, struct worker *w) {
   const struct lock *lock = &e->locks[w->lock];
   w->seen = *lock;
-  if (lock->holder == FREE) return lock->turn == LAST_TURN ? finish(w, CHANT_NOT_TAKEN) : go_to(w, GRAB);
+  if (lock->holder == FREE) return lock->turn == LAST_TURN ? finish(w, CHANT_WORN) : go_to(w, GRAB);
   w->uses |= 1u << lock->holder;
   w->won = *lock;
   return run(e, w, lock->holder);

@@ -9,7 +9,7 @@ static const uint8_t setup[] = {29, 0, 2, 0, 2, 3, 0, 0, 1, 5, 0, 0, 0, 9, 0, 0,
 static const uint8_t add[] = {24, 0, 1, 0, 2, 0, 0, 0, 1, 1, 1, 0, 5, 0, 1, 0, 3, 0, 0, 0, 0, 1, 0, 0};
 /* Load words 0 and 1, skip one if they are equal, halt no, halt yes. */
 static const uint8_t equal[] = {24, 0, 1, 0, 2, 0, 0, 0, 2, 1, 1, 0, 7, 0, 1, 1, 0, 0, 0, 0, 0, 1, 0, 0};
-static const char *const answers[] = {"", "ran, yes", "ran, no", "not taken"};
+static const char *const answers[] = {"", "ran, yes", "ran, no", "not taken", "worn"};
 static uint32_t state[CHANT_STATE_NUMBERS];
 
 /* Ends the program where a call was refused. */

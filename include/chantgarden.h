@@ -54,6 +54,7 @@
 #define CHANT_RAN_YES 1
 #define CHANT_RAN_NO 2
 #define CHANT_NOT_TAKEN 3
+#define CHANT_WORN 4
 
 #ifdef __cplusplus
 extern "C" {
@@ -79,8 +80,10 @@ CHANT_READ chant_reply chant_begin(uint32_t *state, size_t numbers, uint32_t wor
  * Refused 1, 11, 4. */
 CHANT_READ chant_reply chant_step(uint32_t *state, size_t numbers, uint32_t worker);
 
-/* Hands out a finished worker's answer (CHANT_RAN_YES, CHANT_RAN_NO, CHANT_NOT_TAKEN: not run, may be tried again at once), the
- * number of accepted steps since begin and that of filled entries, and makes the worker idle. Filled are the entries of the log that
+/* Hands out a finished worker's answer, the number of accepted steps since begin and that of filled entries, and makes the worker
+ * idle. CHANT_RAN_YES, CHANT_RAN_NO: the job ran, and its halt says yes or no. CHANT_NOT_TAKEN: the job was not run; no more is
+ * said. A helper that releases a lock at its last turn is told this, and its next begin there is refused 9. CHANT_WORN: the job was not
+ * run, and its lock is free at turn 67,108,864: until the next setup no begin there is accepted. Filled are the entries of the log that
  * this worker's commits were the first to fill in this try, on its own job's sheet or on the one that it helped: how much of the load
  * it carried. Refused 1, 11, 3. */
 CHANT_READ chant_collected chant_collect(uint32_t *state, size_t numbers, uint32_t worker);

@@ -25,6 +25,7 @@ fn try_job(engine: &mut Engine, worker: u32, job: &[u8]) -> Result<(), Refusal> 
         Answer::RanYes => "ran, yes",
         Answer::RanNo => "ran, no",
         Answer::NotTaken => "not taken",
+        Answer::Worn => "worn",
     };
     let (steps, filled) = (told.steps, told.filled);
     println!("worker {worker}: {answer}, after {steps} steps; log entries filled: {filled}");

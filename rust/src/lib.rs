@@ -90,8 +90,12 @@ pub enum Answer {
     RanYes,
     /// The job ran, and its halt says no.
     RanNo,
-    /// The job was not run; the caller may try again at once.
+    /// The job was not run; no more is said. A helper that releases a lock at
+    /// its last turn is told this, and its next begin there is refused 9.
     NotTaken,
+    /// The job was not run, and its lock is free at turn 67,108,864: until the
+    /// next setup no begin there is accepted.
+    Worn,
 }
 
 /// What collect hands out.
@@ -185,6 +189,7 @@ impl Engine {
         let answer = match told.answer {
             1 => Answer::RanYes,
             2 => Answer::RanNo,
+            4 => Answer::Worn,
             // The archive gives no number but 3 here.
             _ => Answer::NotTaken,
         };

@@ -1,6 +1,6 @@
 //! The starred rows of document 01's example table, who fills a log's entries,
-//! every refusal that calls can reach, the lent calls with too few numbers,
-//! and the records of calls.
+//! what is told of a lock at its last turn, every refusal that calls can
+//! reach, the lent calls with too few numbers, and the records of calls.
 
 use crate::lent::{self, NUMBERS};
 use crate::{Answer, Engine, Holder, LockWord, Recorder, Refusal, Word};
@@ -27,9 +27,22 @@ const C: [u8; 36] = [
     0, 0, 1, 0, 0,
 ];
 
+/// The last turn of a lock: 2 to the 26th.
+const LAST: u32 = 67_108_864;
+
 fn engine() -> Engine {
     let mut engine = Engine::blank();
     assert_eq!(engine.setup(&S), Ok(()));
+    engine
+}
+
+/// Setup S, but that lock 0 can be won only once more.
+fn before_last() -> Engine {
+    let mut setup = S;
+    setup[21..25].copy_from_slice(&[0xFF, 0xFF, 0xFF, 3]);
+    let mut engine = Engine::blank();
+    assert_eq!(engine.setup(&setup), Ok(()));
+    assert_eq!(engine.read_lock(0), lock(LAST - 1, Holder::Free));
     engine
 }
 
@@ -197,6 +210,55 @@ fn filled_and_lost() {
     assert_eq!(engine.drop_worker(0), Ok(()));
     assert_eq!(alone(&mut engine, 0, &B), (Answer::NotTaken, 11, 0));
     assert_eq!(alone(&mut engine, 0, &B), (Answer::RanNo, 12, 2));
+}
+
+/// Worker 0 wins the last turn while workers 1 and 2 stand before their Look,
+/// which then ends their tries. The other lock can still be won.
+#[test]
+fn worn() {
+    let mut engine = before_last();
+    begun(&mut engine, 0, &A, 0);
+    begun(&mut engine, 1, &B, 0);
+    begun(&mut engine, 2, &B, 0);
+    assert_eq!(finished(&mut engine, 0), (Answer::RanYes, 14, 2));
+    for worker in [1, 2] {
+        assert_eq!(finished(&mut engine, worker), (Answer::Worn, 1, 0));
+        assert_eq!(engine.read_lock(0), lock(LAST, Holder::Free));
+    }
+    for worker in 0..8 {
+        assert_eq!(engine.begin(worker, 0, &B), refused(9, 0));
+        assert_eq!(engine.begin(worker, 1, &halts(1)), Ok(()));
+    }
+}
+
+/// Worker 1 helps at the last turn, and its own release wears the lock: it is
+/// told only that its job was not run. Worker 2 began while the lock was held,
+/// which is accepted, and looks after that release.
+#[test]
+fn not_taken_where_the_lock_is_held_at_its_last_turn() {
+    let mut engine = before_last();
+    begun(&mut engine, 0, &A, 10);
+    assert_eq!(engine.read_lock(0), lock(LAST, Holder::Sheet(0)));
+    begun(&mut engine, 2, &B, 0);
+    assert_eq!(alone(&mut engine, 1, &B), (Answer::NotTaken, 11, 0));
+    assert_eq!(engine.read_lock(0), lock(LAST, Holder::Free));
+    assert_eq!(engine.begin(1, 0, &B), refused(9, 0));
+    assert_eq!(finished(&mut engine, 2), (Answer::Worn, 1, 0));
+    assert_eq!(finished(&mut engine, 0), (Answer::RanYes, 14, 2));
+    assert_eq!(engine.begin(0, 0, &A), refused(9, 0));
+}
+
+/// Worker 1 looks one turn before the last, which worker 0 then wins and gives
+/// back: Grab fails, Look again sees the worn lock and Read mark ends the try.
+/// Only Look tells worn.
+#[test]
+fn not_taken_where_the_lock_wears_after_look() {
+    let mut engine = before_last();
+    begun(&mut engine, 1, &B, 1);
+    assert_eq!(alone(&mut engine, 0, &A), (Answer::RanYes, 14, 2));
+    assert_eq!(engine.read_lock(0), lock(LAST, Holder::Free));
+    assert_eq!(finished(&mut engine, 1), (Answer::NotTaken, 4, 0));
+    assert_eq!(engine.begin(1, 0, &B), refused(9, 0));
 }
 
 #[test]

@@ -1,9 +1,9 @@
-//! The checker of demand 3 and of request 02. It makes the calls on an
-//! engine, keeps for each lock the list of tries that won it, and after every
-//! call holds the lock's words against that list. It also keeps who filled
-//! each log entry: one that is empty before a step and filled after it was
-//! filled by that step. It knows of the engine only what its calls tell, and
-//! which entries are filled.
+//! The checker of demand 3 and of requests 02 and 03. It makes the calls on
+//! an engine, keeps for each lock the list of tries that won it, and after
+//! every call holds the lock's words and all answers told so far against that
+//! list. It also keeps who filled each log entry: one that is empty before a
+//! step and filled after it was filled by that step. It knows of the engine
+//! only what its calls tell, and which entries are filled.
 
 use crate::alone;
 use crate::engine::{Answer, Collected, Engine, Instruction, LockWord, Refusal, Standing, Wrong};
@@ -17,15 +17,37 @@ struct Try {
     program: Vec<Instruction>,
     /// The accepted steps since begin.
     steps: u32,
-    /// The first step found the lock held.
-    helps_first: bool,
+    /// The lock word that its first step, Look, found.
+    looked: Option<LockWord>,
     /// It is in its lock's list; the answer is that of its run alone there.
     won: Option<bool>,
-    /// Its answer was handed out.
-    answered: bool,
+    /// The answer that was handed out.
+    answered: Option<Answer>,
     /// The numbers of the tries that filled the entries of its own sheet's
     /// log, whatever became of their workers: one for each entry.
     log: Vec<usize>,
+}
+
+impl Try {
+    /// The most steps that it takes: Look is the only one on a worn lock.
+    fn bound(&self) -> u32 {
+        match self.looked {
+            Some(LockWord::WORN) => 1,
+            Some(LockWord { sheet: Some(_), .. }) => Engine::LONGEST_HELP,
+            _ => Engine::LONGEST_TRY,
+        }
+    }
+
+    /// Its answer in the list; outside every list not taken or worn, the
+    /// latter exactly where Look found the lock worn.
+    fn right_answer(&self) -> Answer {
+        match self.won {
+            Some(true) => Answer::RanYes,
+            Some(false) => Answer::RanNo,
+            None if self.looked == Some(LockWord::WORN) => Answer::Worn,
+            None => Answer::NotTaken,
+        }
+    }
 }
 
 /// What is kept for one lock.
@@ -143,6 +165,7 @@ impl Checker {
             self.check_lock(lock, stepped)?;
             self.check_words(lock)?;
         }
+        self.check_answers()?;
         for sheet in 0..Engine::SHEETS {
             self.check_log(sheet, stepped)?;
         }
@@ -182,7 +205,8 @@ impl Checker {
         self.taken = [NOT_TAKEN; Engine::SHEETS];
     }
 
-    /// An accepted begin, and the sheet that was the lowest free one.
+    /// An accepted begin, and the sheet that was the lowest free one: the
+    /// lock is not worn.
     fn note_begin(
         &mut self,
         worker: u32,
@@ -195,15 +219,19 @@ impl Checker {
         let Some(sheet) = free else {
             return Err(format!("try {number} begins without a free sheet"));
         };
+        let lock = lock as usize;
+        if self.kept[lock].seen == LockWord::WORN {
+            return Err(format!("try {number} begins on a worn lock"));
+        }
         self.current[worker as usize] = Some(number);
         self.taken[sheet].by = Some(number);
         self.tries.push(Try {
-            lock: lock as usize,
+            lock,
             program: record[4..].chunks(4).map(four).collect(),
             steps: 0,
-            helps_first: false,
+            looked: None,
             won: None,
-            answered: false,
+            answered: None,
             log: Vec::new(),
         });
         Ok(())
@@ -215,23 +243,18 @@ impl Checker {
             return Err(format!("worker {worker} steps without a try"));
         };
         let attempt = &mut self.tries[number];
-        if attempt.steps == 0 {
-            attempt.helps_first = self.kept[attempt.lock].seen.sheet.is_some();
-        }
+        let seen = self.kept[attempt.lock].seen;
+        attempt.looked = attempt.looked.or(Some(seen));
         attempt.steps += 1;
-        let bound = if attempt.helps_first {
-            Engine::LONGEST_HELP
-        } else {
-            Engine::LONGEST_TRY
-        };
+        let bound = attempt.bound();
         if attempt.steps > bound {
             return Err(format!("try {number} takes more than {bound} steps"));
         }
         Ok(number)
     }
 
-    /// An accepted collect: the answer is the list's, the numbers those of
-    /// the steps and of the fillings.
+    /// An accepted collect: the numbers are those of the steps and of the
+    /// fillings.
     fn note_collect(&mut self, worker: u32, told: &Told) -> Result<(), Broken> {
         let Some(number) = self.current[worker as usize].take() else {
             return Err(format!("worker {worker} collects without a try"));
@@ -246,19 +269,22 @@ impl Checker {
         };
         self.check_fillings(number, filled)?;
         let attempt = &mut self.tries[number];
-        attempt.answered = true;
+        attempt.answered = Some(answer);
         if steps != attempt.steps {
             let accepted = attempt.steps;
             return Err(format!("try {number} tells {steps} steps, not {accepted}"));
         }
-        let right = match attempt.won {
-            Some(true) => Answer::RanYes,
-            Some(false) => Answer::RanNo,
-            None => Answer::NotTaken,
-        };
-        if answer != right {
-            let (answer, right) = (answer.number(), right.number());
-            return Err(format!("try {number} is told answer {answer}, not {right}"));
+        Ok(())
+    }
+
+    /// Every answer that was handed out is right, also after the calls since.
+    fn check_answers(&self) -> Result<(), Broken> {
+        for (number, attempt) in self.tries.iter().enumerate() {
+            let right = attempt.right_answer();
+            if let Some(answer) = attempt.answered.filter(|&answer| answer != right) {
+                let (answer, right) = (answer.number(), right.number());
+                return Err(format!("try {number} is told answer {answer}, not {right}"));
+            }
         }
         Ok(())
     }
@@ -300,6 +326,7 @@ impl Checker {
 
     /// A lock word changes only in a step: won from free, with the next
     /// turn, by the try that made the step; or released, with the same turn.
+    /// A worn one does not change.
     fn check_lock(&mut self, lock: usize, stepped: Option<usize>) -> Result<(), Broken> {
         let Ok(now) = self.engine.read_lock(lock as u32) else {
             return Err(format!("lock {lock} can't be read"));
@@ -311,6 +338,7 @@ impl Checker {
                 return Err(format!("{change} by no step of a try on it"));
             };
             match (before.sheet, now.sheet) {
+                _ if before == LockWord::WORN => return Err(change),
                 (None, Some(_)) if now.turn == before.turn + 1 => self.note_win(number)?,
                 (Some(_), None) if now.turn == before.turn => {}
                 _ => return Err(change),
@@ -328,8 +356,8 @@ impl Checker {
     /// run in full, and its own run alone starts from there.
     fn note_win(&mut self, number: usize) -> Result<(), Broken> {
         let attempt = &mut self.tries[number];
-        if attempt.won.is_some() || attempt.answered {
-            return Err(format!("try {number} wins again, or after its end"));
+        if attempt.won.is_some() {
+            return Err(format!("try {number} wins again"));
         }
         let kept = &mut self.kept[attempt.lock];
         let start = kept.parts.last().expect("there is always one part");

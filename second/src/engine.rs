@@ -1,7 +1,7 @@
 //! The engine in place: workers, locks, words and sheets, and the calls on
-//! them, straight from document 01, with request 02's count of filled entries.
-//! The numbers in comments such as "step 4" are those of "One try, step by
-//! step".
+//! them, straight from document 01, with request 02's count of filled entries
+//! and request 03's answer, worn. The numbers in comments such as "step 4" are
+//! those of "One try, step by step".
 
 use std::ops::Range;
 
@@ -32,7 +32,10 @@ pub(crate) fn refused<T>(number: u32) -> Result<T, Refusal> {
 pub enum Answer {
     RanYes,
     RanNo,
+    /// The job was not run; its lock may be worn by now.
     NotTaken,
+    /// The job was not run: step 1 found its lock worn.
+    Worn,
 }
 
 impl Answer {
@@ -42,6 +45,7 @@ impl Answer {
             Answer::RanYes => 1,
             Answer::RanNo => 2,
             Answer::NotTaken => 3,
+            Answer::Worn => 4,
         }
     }
 }
@@ -69,6 +73,14 @@ pub struct Word {
 pub struct LockWord {
     pub turn: u32,
     pub sheet: Option<usize>,
+}
+
+impl LockWord {
+    /// Free at the last turn: it stays so until the next setup.
+    pub const WORN: LockWord = LockWord {
+        turn: Engine::LAST_TURN,
+        sheet: None,
+    };
 }
 
 /// A filled log entry, and also what one reading of a word gives.
@@ -209,9 +221,9 @@ pub enum Standing {
     Finished,
 }
 
-/// The shortcuts that document 01 shuts out, and slips in request 02's count.
-/// The tests make the engine wrong on purpose with one of them, to see that
-/// it is caught.
+/// The shortcuts that document 01 shuts out, and slips in request 02's count
+/// and request 03's answer. The tests make the engine wrong on purpose with
+/// one of them, to see that it is caught.
 #[derive(Clone, Copy, PartialEq, Eq, Debug)]
 pub enum Wrong {
     /// No shortcut: the engine of document 01.
@@ -234,6 +246,10 @@ pub enum Wrong {
     EveryCommitCounts,
     /// Fillings of a helped sheet don't count.
     OwnSheetCounts,
+    /// Step 1 tells not taken of a worn lock.
+    NotTakenOfWorn,
+    /// Step 4 that finds nothing to run tells worn of a worn lock.
+    WornAtStepFour,
 }
 
 /// The whole state.
@@ -296,8 +312,7 @@ impl Engine {
         let lock = self.lock_index(lock)?;
         let program = job_instructions(record)?;
         self.check_job(lock, &program)?;
-        let word = self.locks[lock];
-        if word.sheet.is_none() && word.turn == Engine::LAST_TURN {
+        if self.locks[lock] == LockWord::WORN {
             return refused(9);
         }
         let own = match (0..Engine::SHEETS).find(|&sheet| !self.in_use(sheet)) {
@@ -496,13 +511,14 @@ impl Engine {
 
     /// Step 1. The held sheet counts as helped from this step on.
     fn look(&mut self, attempt: Try) -> State {
-        let LockWord { turn, sheet } = self.locks[attempt.lock];
-        match sheet {
+        let seen = self.locks[attempt.lock];
+        let turn = seen.turn;
+        match seen.sheet {
             Some(held) => {
                 let helped = Some(held);
                 Try { helped, ..attempt }.run(held, turn)
             }
-            None if turn == Engine::LAST_TURN => State::Finished(Answer::NotTaken),
+            None if seen == LockWord::WORN => not_run(self.wrong != Wrong::NotTakenOfWorn),
             None => attempt.at(Point::Grab { turn }),
         }
     }
@@ -531,7 +547,8 @@ impl Engine {
     }
 
     /// Step 4, once the own mark is read. The own sheet runs under the turn
-    /// after Look's, a helped one under the turn that step 3 saw.
+    /// after Look's, a helped one under the turn that step 3 saw. Where there
+    /// is none to run, worn is not told, though the lock be so by now.
     fn turn_to(&self, attempt: Try, turn: u32, seen: LockWord, marked: bool) -> State {
         let own = attempt.own;
         match seen.sheet {
@@ -543,7 +560,10 @@ impl Engine {
                 let helped = Some(other);
                 Try { helped, ..attempt }.run(other, seen.turn)
             }
-            None => State::Finished(Answer::NotTaken),
+            None => {
+                let worn = self.locks[attempt.lock] == LockWord::WORN;
+                not_run(worn && self.wrong == Wrong::WornAtStepFour)
+            }
         }
     }
 
@@ -665,6 +685,14 @@ impl Run {
         self.instruction += 1;
         self.part = Part::Start;
     }
+}
+
+/// Ends a try that ran no sheet.
+fn not_run(worn: bool) -> State {
+    State::Finished(match worn {
+        true => Answer::Worn,
+        false => Answer::NotTaken,
+    })
 }
 
 /// Own sheet: ran, with the halt's answer. Helped sheet: not taken.

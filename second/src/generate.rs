@@ -61,7 +61,7 @@ struct Style {
     locks: u32,
     words: u32,
     longest_job: u32,
-    /// Turns start near the last one.
+    /// Turns start near the last one, and begun tries overtake others.
     late_turns: bool,
     /// One call in so many is an odd one; 0 for none.
     odd: u32,
@@ -79,7 +79,7 @@ impl Style {
                 locks: 1,
                 words: 1 + random.below(2),
                 longest_job: 2 + random.below(4),
-                late_turns: false,
+                late_turns: random.one_in(6),
                 odd: 0,
                 drops: random.pick(&[20, 60, 1000]),
                 readings: 1000,
@@ -196,17 +196,37 @@ impl Generator {
 
     fn good_begin(&mut self, engine: &Engine, worker: u32) -> Call {
         let lock = self.lock();
-        let spent = |word: LockWord| word.sheet.is_none() && word.turn == Engine::LAST_TURN;
-        if engine.read_lock(lock).is_ok_and(spent) && self.random.one_in(6) {
+        let worn = engine.read_lock(lock) == Ok(LockWord::WORN);
+        if worn && self.random.one_in(6) {
             // Little more can happen here: start afresh.
             return Call::Setup(self.setup_record());
         }
+        if self.style.late_turns && !worn && self.random.one_in(4) {
+            self.overtake(engine, worker, lock);
+        }
+        self.begin(engine, worker, lock)
+    }
+
+    fn begin(&mut self, engine: &Engine, worker: u32, lock: u32) -> Call {
         let record = self.job_record(engine, lock);
         Call::Begin {
             worker,
             lock,
             record,
         }
+    }
+
+    /// After this worker's begin the other idle ones begin too, and it comes
+    /// to its end before they look: they often find the lock worn then.
+    fn overtake(&mut self, engine: &Engine, worker: u32, lock: u32) {
+        for other in 0..self.style.workers {
+            if other != worker && engine.standing(other) == Standing::Idle {
+                let begin = self.begin(engine, other, lock);
+                self.waiting.push_back(begin);
+            }
+        }
+        let times = Engine::LONGEST_TRY;
+        self.waiting.push_back(Call::Step { worker, times });
     }
 
     /// A lock, the first one more often.
@@ -384,7 +404,8 @@ impl Generator {
         }
         for _ in 0..locks {
             let turn = match self.random.below(4) {
-                _ if self.style.late_turns => Engine::LAST_TURN - self.random.below(12),
+                0 if self.style.late_turns => Engine::LAST_TURN - self.random.below(12),
+                _ if self.style.late_turns => Engine::LAST_TURN - self.random.pick(&[0, 1, 1, 2]),
                 0 => self.random.below(Engine::LAST_TURN),
                 _ => 0,
             };

@@ -1,5 +1,5 @@
-//! The checker of demand 3 and request 02 over random histories of the right
-//! engine, and over engines that are made wrong on purpose.
+//! The checker of demand 3 and of requests 02 and 03 over random histories of
+//! the right engine, and over engines that are made wrong on purpose.
 
 mod common;
 use common::{job, setup};
@@ -8,7 +8,7 @@ use second::engine::{Engine, Wrong};
 use second::generate::Kind;
 use second::script::Call;
 
-const WRONG: [Wrong; 9] = [
+const WRONG: [Wrong; 11] = [
     Wrong::MarkBeforeLook,
     Wrong::SwapByValue,
     Wrong::ReleaseBeforeMark,
@@ -18,6 +18,8 @@ const WRONG: [Wrong; 9] = [
     Wrong::OwnReading,
     Wrong::EveryCommitCounts,
     Wrong::OwnSheetCounts,
+    Wrong::NotTakenOfWorn,
+    Wrong::WornAtStepFour,
 ];
 
 /// How many random histories are made, at most, until a wrong engine is
@@ -42,7 +44,7 @@ fn right_engine_in_wide_histories() {
 }
 
 /// The first random history in which a wrong engine breaks demand 3, or
-/// tells a wrong number of fillings.
+/// tells a wrong number of fillings or a wrong answer.
 fn caught(wrong: Wrong, kind: Kind) -> Option<(u64, Broken)> {
     (0..HISTORIES).find_map(|seed| {
         let broken = random_history(wrong, seed, kind, CALLS).err()?;
@@ -63,19 +65,23 @@ fn random_histories_catch_every_wrong_engine() {
 
 /// One entry of a fixed schedule; workers and locks as in a script.
 enum Do {
+    /// The setup once more, the lock with this starting turn.
+    StartAt(u32),
     Begin(u32, Vec<u8>),
     Step(u32, u32),
     Collect(u32),
     Drop(u32),
 }
-use Do::{Begin, Collect, Drop, Step};
+use Do::{Begin, Collect, Drop, StartAt, Step};
 
 /// Makes a fixed schedule under the checker: one lock, words 5 and 9.
 fn scheduled(wrong: Wrong, schedule: &[Do]) -> Result<(), Broken> {
     let mut checker = Checker::new(Engine::wrong(wrong));
-    checker.call(&Call::Setup(setup(&[0, 0], &[5, 9], &[0])))?;
+    let starting_at = |turn| Call::Setup(setup(&[0, 0], &[5, 9], &[turn]));
+    checker.call(&starting_at(0))?;
     for entry in schedule {
         let call = match entry {
+            &StartAt(turn) => starting_at(turn),
             Begin(worker, record) => Call::Begin {
                 worker: *worker,
                 lock: 0,
@@ -255,6 +261,54 @@ fn fillings_on_schedule() {
         "tells 2 fillings, not 1",
     );
     only_wrong_is_caught(Wrong::OwnSheetCounts, &schedule, "tells 0 fillings, not 1");
+}
+
+/// The lock is worn when worker 1 looks.
+#[test]
+fn not_taken_of_worn_on_schedule() {
+    let schedule = [
+        StartAt(67_108_863),
+        Begin(0, add_one()),
+        Begin(1, add_one()),
+        Step(0, 1000),
+        Step(1, 1),
+        Collect(1),
+    ];
+    only_wrong_is_caught(Wrong::NotTakenOfWorn, &schedule, "told answer 3, not 4");
+}
+
+/// Worker 1 lost its grab; it looks again when the lock is worn.
+#[test]
+fn worn_at_step_four_on_schedule() {
+    let schedule = [
+        StartAt(67_108_863),
+        Begin(0, add_one()),
+        Begin(1, add_one()),
+        Step(1, 1),
+        Step(0, 1000),
+        Step(1, 1000),
+        Collect(1),
+    ];
+    only_wrong_is_caught(Wrong::WornAtStepFour, &schedule, "told answer 4, not 3");
+}
+
+/// The same, but the lock is worn only after worker 1 has looked again.
+#[test]
+fn worn_since_step_three_on_schedule() {
+    let schedule = [
+        StartAt(67_108_862),
+        Begin(0, add_one()),
+        Begin(1, add_one()),
+        Step(1, 1),
+        Step(0, 1000),
+        Collect(0),
+        Step(1, 2),
+        Begin(0, add_one()),
+        Step(0, 1000),
+        Step(1, 1000),
+        Collect(1),
+    ];
+    only_wrong_is_caught(Wrong::WornAtStepFour, &schedule, "told answer 4, not 3");
 }
 
 /// The list holds the tries that won, in the order of their turns; a dropped

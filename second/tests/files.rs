@@ -115,6 +115,27 @@ fn a_shared_log() {
     assert_eq!(told(&file(drop_worker)), wanted);
 }
 
+/// Worker 0 takes the last turn; worker 1 looks after that, and its line has
+/// answer 4.
+#[test]
+fn a_worn_lock() {
+    let late = setup(&[0, 0, 1], &[5, 9, 7], &[67_108_863, 0]);
+    let calls = [
+        begin(0, A),
+        begin(1, B),
+        steps(0, 14),
+        steps(1, 1),
+        collect(0),
+        collect(1),
+        begin(1, B),
+    ];
+    let mut wanted = vec!["0 0 0"; 20];
+    wanted[17] = "0 1 14 2";
+    wanted[18] = "0 4 1 0";
+    wanted[19] = "9 0 0";
+    assert_eq!(told(&[late, calls.concat()].concat()), wanted);
+}
+
 /// Each refusal that a call of a file can get, and the walk goes on.
 #[test]
 fn refusals_of_calls_do_not_end_the_walk() {

@@ -22,11 +22,13 @@ fn calls(text: &[u8]) -> Vec<Call> {
 }
 
 /// Scripts are of the form, have 200 calls or more and fit; together they
-/// reach every refusal but 10, which no calls reach, and all three answers.
+/// reach every refusal but 10, which no calls reach, and all four answers, of
+/// which worn is the rarest.
 #[test]
 fn scripts_reach_everything() {
     let mut refusals = BTreeSet::new();
     let mut answers = BTreeSet::new();
+    let mut worn = 0;
     let mut lengths = BTreeSet::new();
     for seed in 0..1_000 {
         let text = generate::history(seed);
@@ -40,7 +42,9 @@ fn scripts_reach_everything() {
             refusals.insert(refusal(line));
             match call {
                 Call::Collect(_) => {
-                    answers.insert(line.split(' ').nth(3).unwrap().to_string());
+                    let answer = line.split(' ').nth(3).unwrap();
+                    answers.insert(answer.to_string());
+                    worn += u32::from(answer == "4");
                 }
                 Call::Begin { record, .. } if refusal(line) == 0 => {
                     lengths.insert(record.len());
@@ -51,7 +55,8 @@ fn scripts_reach_everything() {
     }
     let but_ten: BTreeSet<u32> = (0..=16).filter(|&number| number != 10).collect();
     assert_eq!(refusals, but_ten);
-    assert_eq!(answers, ["0", "1", "2", "3"].map(String::from).into());
+    assert_eq!(answers, ["0", "1", "2", "3", "4"].map(String::from).into());
+    assert!(worn > 400, "{worn}");
     assert_eq!(lengths, (1..=32).map(|n| 4 + 4 * n).collect());
 }
 

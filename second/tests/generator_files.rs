@@ -34,7 +34,7 @@ fn calls(file: &[u8], walked: &Walked) -> Vec<[u32; 5]> {
 }
 
 /// Each call is accepted, and is refused in each way that calls reach; all
-/// three answers are told, also of tries that helped, of those that filled
+/// four answers are told, also of tries that helped, of those that filled
 /// entries in it, and of the longest ones.
 #[test]
 fn calls_reach_everything() {
@@ -43,6 +43,7 @@ fn calls_reach_everything() {
     let mut most_steps = 0;
     let mut helped = 0;
     let mut filling = 0;
+    let mut worn = 0;
     for seed in 0..FILES {
         let file = file(seed);
         for [call, refusal, answer, steps, filled] in calls(&file, &walk(&file)) {
@@ -52,6 +53,7 @@ fn calls_reach_everything() {
             // Without a sheet to run, a try takes 4 steps at most.
             helped += u32::from(answer == 3 && steps > 4);
             filling += u32::from(answer == 3 && filled > 0);
+            worn += u32::from(answer == 4);
         }
     }
     let of = |call: u32, refusals: &[u32]| -> Vec<(u32, u32)> {
@@ -64,10 +66,11 @@ fn calls_reach_everything() {
         of(3, &[0, 1, 11]),
     ];
     assert_eq!(refusals, all.concat().into_iter().collect());
-    assert_eq!(answers, BTreeSet::from([0, 1, 2, 3]));
+    assert_eq!(answers, BTreeSet::from([0, 1, 2, 3, 4]));
     assert!(most_steps > 60, "{most_steps}");
     assert!(helped > 200, "{helped}");
     assert!(filling > 200, "{filling}");
+    assert!(worn > 50, "{worn}");
 }
 
 /// Why a setup is refused, or that it is cut short.

@@ -186,8 +186,8 @@ fn refusal_8_of_a_word() {
     assert_eq!(begun(&[[2, 4, 2, 0], HALT]), (7, 0));
 }
 
-/// Free at the last turn; but a lock held at the last turn takes begins, and
-/// a try that looks at a free lock with the last turn ends there.
+/// Free at the last turn, after the refusals of the record; but a lock held
+/// at the last turn takes begins.
 #[test]
 fn refusal_9_of_a_turn() {
     let late = hex(&setup(&[0], &[5], &[67_108_863]));
@@ -200,11 +200,14 @@ fn refusal_9_of_a_turn() {
         begin 2 0 A => 0 0
         step 0 1000 => 4 0 12
         begin 3 0 - => 5 0
+        begin 3 0 B => 8 1
         begin 3 0 A => 9 0
         step 1 1000 => 4 0 1
-        collect 1 => 0 0 3 1 0
+        collect 1 => 0 0 4 1 0
+        begin 1 0 A => 9 0
         step 2 1000 => 4 0 1
-        collect 2 => 0 0 3 1 0"
+        collect 2 => 0 0 4 1 0
+        begin 2 0 A => 9 0"
     ));
 }
 

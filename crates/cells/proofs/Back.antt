@@ -7,7 +7,7 @@ use native.Mathlib.Omega.{arith}
 use borrow.Author.Tests.{ne-eqb}
 use lib.ListN.{getD, length}
 use Rattle.parts.specs.Told.{answerNumber}
-use Rattle.parts.specs.declared.Answer.the-variants.{RanYes, RanNo, NotTaken}
+use Rattle.parts.specs.declared.Answer.the-variants.{RanYes, RanNo, NotTaken, Worn}
 use Rattle.parts.specs.declared.Answer.{Answer}
 use Rattle.parts.specs.declared.Entry.{Entry}
 use Rattle.parts.specs.declared.Fill.the-variants.{Empty, Filled}
@@ -44,6 +44,7 @@ unfolding answerIn answerNumber
 answer-back RanYes = refl
 answer-back RanNo = refl
 answer-back NotTaken = refl
+answer-back Worn = refl
 
 pub lock-back : (x : LockWord) → HolderFits (x .holder) → lockIn (lockNumbers x) ≡ x
 lock-back x o = λ t. record { turn = x .turn; holder = holder-back (x .holder) o t }

@@ -173,9 +173,9 @@ readingIn l = record { value = getD l atValue 0; count = getD l atCount 0 }
 abbrev pub seenIn : List ℕ → LockWord
 seenIn l = lockWordOf (getD l atValue 0) (getD l atSheet 0)
 
--- the answers' numbers; any other number says not taken
+-- the answers' numbers; any other number says not taken too
 unfoldable pub answerIn : ℕ → Answer
-answerIn x = pick (eqb x 1) RanYes (pick (eqb x 2) RanNo NotTaken)
+answerIn x = pick (eqb x 1) RanYes (pick (eqb x 2) RanNo (pick (eqb x 4) Worn NotTaken))
 
 -- by the tag; any other than 0 to 9 says finished
 unfoldable pub stateIn : List ℕ → State

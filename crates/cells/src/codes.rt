@@ -125,6 +125,7 @@ pub fn answer_of(x: u32) -> Answer
     match x {
         1 => Answer::RanYes,
         2 => Answer::RanNo,
+        4 => Answer::Worn,
         _ => Answer::NotTaken,
     }
 }

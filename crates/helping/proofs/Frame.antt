@@ -4,7 +4,7 @@ use mathlib.Core.Path.{_≡_, refl, sym, ap, _∙_, subst}
 use mathlib.Core.Logic.{_⊎_, inl, inr, _≢_}
 use mathlib.Core.Bool.{true}
 use mathlib.Core.List.{List}
-use Rattle.parts.specs.declared.Answer.the-variants.{RanYes, RanNo, NotTaken}
+use Rattle.parts.specs.declared.Answer.the-variants.{RanYes, RanNo, NotTaken, Worn}
 use Rattle.parts.specs.declared.Holder.the-variants.{By}
 use Rattle.steps.specs.Places.{helpedOf}
 use Rattle.steps.specs.declared.Point.{Point}
@@ -124,6 +124,7 @@ retold K T T′ v t k (UnderWay p) a f n =
 retold K T T′ v t k (Finished RanYes) a f n = (n .0, f _ (n .1))
 retold K T T′ v t k (Finished RanNo) a f n = (n .0, f _ (n .1))
 retold K T T′ v t k (Finished NotTaken) a f n = (n .0, a tt (n .1))
+retold K T T′ v t k (Finished Worn) a f n = (n .0, a tt (n .1))
 
 -- only worker i changes, and becomes k
 pub record Keeps (E : Scene) (i : ℕ) (k : Worker) : Type 0 where

@@ -9,7 +9,7 @@ use lib.Dec.{eqb}
 use borrow.Author.Tests.{eqb-true, eqb-false}
 use Rattle.parts.specs.Pick.{pick, onHolder}
 use Rattle.parts.specs.declared.Answer.{Answer}
-use Rattle.parts.specs.declared.Answer.the-variants.{NotTaken}
+use Rattle.parts.specs.declared.Answer.the-variants.{NotTaken, Worn}
 use Rattle.parts.specs.declared.Holder.{Holder}
 use Rattle.parts.specs.declared.Holder.the-variants.{Free, By}
 use Rattle.parts.specs.declared.LockWord.{LockWord}
@@ -94,8 +94,8 @@ module _ (K : Rules) (E : Scene) (T : Tale) (st : ℕ → Status) (o : Ok K E T 
 
       free :
           (b : Bool) → E .lock l .holder ≡ Free → eqb (E .lock l .turn) (K .last) ≡ b →
-          Ok K (onTo E i (E .worker i) (pick b (Finished NotTaken) (UnderWay (Grab (E .lock l .turn))))) T st
-      free true h z = ends K E T st o i Look e NotTaken (omega arith) (mine-named K E T st o i Look e .absent (q .0))
+          Ok K (onTo E i (E .worker i) (pick b (Finished Worn) (UnderWay (Grab (E .lock l .turn))))) T st
+      free true h z = ends K E T st o i Look e Worn (omega arith) (mine-named K E T st o i Look e .absent (q .0))
       free false h z =
           let f = lock-at K E T st o l Free h in
           goes K E T st o i Look e (Grab (E .lock l .turn)) (omega arith)
@@ -105,7 +105,7 @@ module _ (K : Rules) (E : Scene) (T : Tale) (st : ℕ → Status) (o : Ok K E T 
           (h : Holder) → E .lock l .holder ≡ h →
           Ok K
           (onTo E i (E .worker i)
-          (onHolder h (pick (eqb (E .lock l .turn) (K .last)) (Finished NotTaken) (UnderWay (Grab (E .lock l .turn))))
+          (onHolder h (pick (eqb (E .lock l .turn) (K .last)) (Finished Worn) (UnderWay (Grab (E .lock l .turn))))
           (λ s. UnderWay (Point.Run (startOf s (E .lock l .turn)) Read))))
           T st
       go Free h = free (eqb (E .lock l .turn) (K .last)) h refl

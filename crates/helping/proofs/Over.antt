@@ -1,4 +1,4 @@
--- A try that was told "not taken" stands in no list, at this and every later cut: it never comes to win.
+-- A try that was told "not taken" or "worn" stands in no list, at this and every later cut: it never comes to win.
 use Prim.Native.Nat.{ℕ}
 use native.Mathlib.Omega.{arith}
 use mathlib.Core.Path.{_≡_, sym, ap, _∙_, subst}
@@ -7,7 +7,7 @@ use mathlib.Core.Bool.{Bool, true, false}
 use mathlib.Core.List.{List}
 use lib.Dec.{eqb}
 use Rattle.parts.specs.Pick.{pick}
-use Rattle.parts.specs.declared.Answer.the-variants.{NotTaken}
+use Rattle.parts.specs.declared.Answer.the-variants.{NotTaken, Worn}
 use Rattle.parts.specs.declared.Instr.{Instr}
 use Rattle.steps.specs.Worker.{worker0, lookingOf}
 use Rattle.steps.specs.declared.Point.{Point}
@@ -17,28 +17,33 @@ use Rattle.steps.specs.declared.State.{State}
 use Rattle.steps.specs.declared.State.the-variants.{UnderWay, Finished}
 use Rattle.steps.specs.declared.Worker.{Worker}
 use Rattle.helping.specs.Machine.{Rules, Scene, Tale, stepAt, winTale, stepTale, machineBegun, beginTale, idledOf}
-use Rattle.helping.specs.Ok.{Status, viewOf, Named, NotIdle, Ok, Over}
+use Rattle.helping.specs.Ok.{Status, viewOf, Absent, AnswerOk, Named, NotIdle, Ok, Over}
 use Rattle.helping.proofs.Put.{put-other, put-at, all-but}
 use Rattle.helping.proofs.Wins.{absent-win}
 use Rattle.helping.proofs.Moves.{grab-way}
 
+-- "not taken" or "worn" is told of it
 pub over-told :
-    (K : Rules) (E : Scene) (T : Tale) (st : ℕ → Status) → Ok K E T st → (i : ℕ) →
-    E .worker i .state ≡ Finished NotTaken → Over E T (T .tries i .number)
-over-told K E T st o i e =
+    (K : Rules) (E : Scene) (T : Tale) (st : ℕ → Status) → Ok K E T st → (i : ℕ) (worn : Bool) →
+    E .worker i .state ≡ Finished (pick worn Worn NotTaken) → Over E T (T .tries i .number)
+over-told K E T st o i worn e =
     record {
       begun = o .begun i (busy e);
-      none = subst (Named K T (viewOf E st) (T .tries i) (E .worker i)) e (o .named i) .1;
+      none = absent worn (subst (Named K T (viewOf E st) (T .tries i) (E .worker i)) e (o .named i) .1);
       gone =
           λ m p h same.
           let at : m ≡ i = o .ids m i (subst NotIdle (sym h) tt) (busy e) same in
-          let both : UnderWay p ≡ Finished NotTaken = sym h ∙ ap (λ m. E .worker m .state) at ∙ e in
+          let both : UnderWay p ≡ Finished (pick worn Worn NotTaken) = sym h ∙ ap (λ m. E .worker m .state) at ∙ e in
           let z : _≡_ {A = ℕ} 0 1 = cc in
           absurd (omega arith);
     }
   where
-    busy : {s : State} → s ≡ Finished NotTaken → NotIdle s
+    busy : {s : State} → s ≡ Finished (pick worn Worn NotTaken) → NotIdle s
     busy h = subst NotIdle (sym h) tt
+
+    absent : (b : Bool) → AnswerOk K T (T .tries i) (pick b Worn NotTaken) → Absent T (T .tries i .number)
+    absent true a = a
+    absent false a = a
 
 pub over-begin :
     (E : Scene) (T : Tale) (n i l s : ℕ) (code : List Instr) → Over E T n →

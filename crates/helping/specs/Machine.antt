@@ -10,7 +10,7 @@ use lib.ListN.{getD}
 use Rattle.parts.specs.Instr.{asksOf, followsOf, onAsks, onFollows}
 use Rattle.parts.specs.Parts.{instr0}
 use Rattle.parts.specs.Pick.{pick, onHolder, onFill}
-use Rattle.parts.specs.declared.Answer.the-variants.{NotTaken}
+use Rattle.parts.specs.declared.Answer.the-variants.{NotTaken, Worn}
 use Rattle.parts.specs.declared.Fill.{Fill}
 use Rattle.parts.specs.declared.Fill.the-variants.{Empty, Filled}
 use Rattle.parts.specs.declared.Follows.{Follows}
@@ -202,7 +202,7 @@ machineRelease l won sheet =
 -- "1. Look": where it leads; "4. Read own done mark": where it leads
 unfoldable pub lookTo : ℕ → LockWord → State
 lookTo last l =
-    onHolder (l .holder) (pick (eqb (l .turn) last) (Finished NotTaken) (UnderWay (Grab (l .turn))))
+    onHolder (l .holder) (pick (eqb (l .turn) last) (Finished Worn) (UnderWay (Grab (l .turn))))
     (λ s. UnderWay (Point.Run (startOf s (l .turn)) Read))
 
 unfoldable pub markTo : Bool → LockWord → ℕ → ℕ → State

@@ -7,7 +7,7 @@ use mathlib.Core.List.{List, [], _∷_, _++_}
 use lib.ListN.{length, getD}
 use Rattle.parts.specs.Numbers.{longestRun, trySteps}
 use Rattle.parts.specs.declared.Answer.{Answer}
-use Rattle.parts.specs.declared.Answer.the-variants.{RanYes, RanNo, NotTaken}
+use Rattle.parts.specs.declared.Answer.the-variants.{RanYes, RanNo, NotTaken, Worn}
 use Rattle.parts.specs.declared.Fill.{Fill}
 use Rattle.parts.specs.declared.Fill.the-variants.{Empty}
 use Rattle.parts.specs.declared.Holder.{Holder}
@@ -166,6 +166,7 @@ abbrev pub AnswerOk : Rules → Tale → Try → Answer → Type 0
 AnswerOk K T t RanYes = Listed (Says K t true) t (T .won (t .lock))
 AnswerOk K T t RanNo = Listed (Says K t false) t (T .won (t .lock))
 AnswerOk K T t NotTaken = Absent T (t .number)
+AnswerOk K T t Worn = Absent T (t .number)
 
 -- the last try of a worker that is k: its lock and program are the worker's; it stands in its lock's list once its sheet has won
 pub record TryOk (K : Rules) (T : Tale) (v : View) (t : Try) (k : Worker) : Type 0 where

@@ -3,3 +3,4 @@ pub mod rules
 pub mod simulation
 pub mod demand
 pub mod filled
+pub mod worn

@@ -15,7 +15,8 @@ use Rattle.past.specs.Past.{Call, Begin, Step, Collect, Drop, ReadWord, ReadLoc
 -- 1. WHAT A HISTORY COMES TO: the state; how many begins were accepted; the try of each worker's last accepted begin, and the
 -- accepted steps of that worker since; the tries that won each lock, the latest first. For request 02: the tries that took each sheet,
 -- the latest first; every filling of a log entry, the latest first; and of each try, by its number, whether it made a step in a run of the
--- job of a try, its own or another, by that one's number.
+-- job of a try, its own or another, by that one's number. For request 03: what the Look of each
+-- worker's try found, which is its first step.
 pub record Sofar : Type 0 where
   pub state : Engine
   pub begins : ℕ
@@ -25,6 +26,7 @@ pub record Sofar : Type 0 where
   pub owners : ℕ → List Try
   pub fillings : List Filling
   pub ran : ℕ → ℕ → Bool
+  pub found : ℕ → LockWord
 
 abbrev pub start : Engine → Sofar
 start e =
@@ -37,6 +39,7 @@ start e =
       owners = λ s. [];
       fillings = [];
       ran = λ n j. false;
+      found = λ w. lock0;
     }
 
 -- a begin that is accepted and gives state e is the worker's try from now on, and takes the worker's own sheet; its number is how many
@@ -55,6 +58,7 @@ began x w l rec e =
       owners = λ s. pick (eqb s (workerAt e w .own)) (newTry x l rec ∷ x .owners s) (x .owners s);
       fillings = x .fillings;
       ran = x .ran;
+      found = x .found;
     }
 
 -- "Grab. .. it becomes turn + 1, held by the worker's own sheet": a lock that was free before a step and is held after it, was won
@@ -79,6 +83,10 @@ filledBy x w e =
 abbrev pub runsJob : Sofar → ℕ → ℕ → Bool
 runsJob x w j = onHolder (runsSheet (workerAt (x .state) w .state)) false (λ s. eqb (latest (x .owners s)) j)
 
+-- what the Look of worker w's try found once its next step is made: the lock word before it where that is the first, else what it was
+abbrev pub foundBy : Sofar → ℕ → LockWord
+foundBy x w = pick (eqb (x .steps w) 0) (lockAt (x .state) (x .tries w .lock)) (x .found w)
+
 -- a step that is accepted and gives state e
 abbrev pub stepped : Sofar → ℕ → Engine → Sofar
 stepped x w e =
@@ -91,6 +99,7 @@ stepped x w e =
       owners = x .owners;
       fillings = filledBy x w e ++ x .fillings;
       ran = λ n j. pick (eqb n (x .tries w .number)) (x .ran n j or runsJob x w j) (x .ran n j);
+      found = λ v. pick (eqb v w) (foundBy x w) (x .found v);
     }
 
 -- no other call begins, steps, wins or fills
@@ -105,6 +114,7 @@ andNow x e =
       owners = x .owners;
       fillings = x .fillings;
       ran = x .ran;
+      found = x .found;
     }
 
 -- an accepted call comes to this, by the state that it gave; a refused one to nothing new
@@ -237,9 +247,10 @@ pub record Promised (e₀ : Engine) (x : Sofar) : Type 0 where
   pub ran :
       (w n m : ℕ) (said : Bool) → collectOf (x .state) w .told ≡ CollectTold.Answered (pick said RanYes RanNo) n m →
       RanOnce e₀ x (x .tries w) said
-  -- ""Not taken" is only told of a job outside the list.", now and at every later cut
+  -- ""Not taken" is only told of a job outside the list.", and by request 03 so is "worn"; now and at every later cut
   pub notTaken :
-      (w n m : ℕ) → collectOf (x .state) w .told ≡ CollectTold.Answered NotTaken n m → (more : List Call) → AllRecords more →
+      (w n m : ℕ) (worn : Bool) → collectOf (x .state) w .told ≡ CollectTold.Answered (pick worn Worn NotTaken) n m →
+      (more : List Call) → AllRecords more →
       (l : ℕ) → times (x .tries w .number) (follow x more .won l) ≡ 0
   -- the tries of a lock's list began on that lock; a try stands in the lists once at most; and a lock's turn is its starting turn and one
   -- for each try of its list

@@ -1,3 +1,4 @@
 pub mod Filling
 pub mod History
 pub mod Filled
+pub mod Worn

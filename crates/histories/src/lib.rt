@@ -1,1 +1,1 @@
-// Demand 3 and request 02, over all histories. No code.
+// Demand 3 and requests 02 and 03, over all histories. No code.

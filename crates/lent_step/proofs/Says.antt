@@ -15,7 +15,7 @@ use Rattle.parts.specs.Parts as parts
 use Rattle.parts.specs.Parts.{entry0, lock0, word0, next32, readingOf, committedOf, holdsOf, isFirst, registerOf}
 use Rattle.parts.specs.Pick.{pick, onHolder}
 use Rattle.parts.specs.declared.Answer.{Answer}
-use Rattle.parts.specs.declared.Answer.the-variants.{NotTaken}
+use Rattle.parts.specs.declared.Answer.the-variants.{NotTaken, Worn}
 use Rattle.parts.specs.declared.Asks.{Asks}
 use Rattle.parts.specs.declared.Asks.the-variants.{Halt, Go, Touch}
 use Rattle.parts.specs.declared.Entry.{Entry}
@@ -130,7 +130,7 @@ swap-guard x r new = go (eqb (x .value) (r .value)) (eqb (x .count) (r .count))
 -- The state that a worker is in after Look, Read mark, the first step of an instruction, and its commit.
 abbrev lookState : LockWord → State
 lookState l =
-    onHolder (l .holder) (pick (eqb (l .turn) lastTurn) (Finished NotTaken) (UnderWay (Grab (l .turn))))
+    onHolder (l .holder) (pick (eqb (l .turn) lastTurn) (Finished Worn) (UnderWay (Grab (l .turn))))
     (λ sheet. UnderWay (Point.Run (startOf sheet (l .turn)) Read))
 
 abbrev markState : Bool → LockWord → ℕ → ℕ → State
@@ -154,10 +154,10 @@ look-is v = go (v .lock .holder) (eqb (v .lock .turn) lastTurn)
   where
     go :
         (h : Holder) (t : Bool) →
-        onHolder h (pick t (toOf v (Finished NotTaken)) (try.atOf v (Grab (v .lock .turn))))
+        onHolder h (pick t (toOf v (Finished Worn)) (try.atOf v (Grab (v .lock .turn))))
         (λ x. try.atOf v (Point.Run (startOf x (v .lock .turn)) Read)) ≡
         toOf v
-        (onHolder h (pick t (Finished NotTaken) (UnderWay (Grab (v .lock .turn))))
+        (onHolder h (pick t (Finished Worn) (UnderWay (Grab (v .lock .turn))))
         (λ x. UnderWay (Point.Run (startOf x (v .lock .turn)) Read)))
     go Free true = refl
     go Free false = refl
@@ -235,8 +235,8 @@ module _ (s : List ℕ) (w : ℕ) (h : numbers ≤ length s) (b : w < workers) w
     where
       go :
           (k : Holder) → HolderFits k →
-          Moved s w (onHolder k (pick (eqb (l .turn) lastTurn) (finished s w NotTaken) (toGrab s w (l .turn))) (λ x. started s w x (l .turn)))
-          (onHolder k (pick (eqb (l .turn) lastTurn) (Finished NotTaken) (UnderWay (Grab (l .turn))))
+          Moved s w (onHolder k (pick (eqb (l .turn) lastTurn) (finished s w Worn) (toGrab s w (l .turn))) (λ x. started s w x (l .turn)))
+          (onHolder k (pick (eqb (l .turn) lastTurn) (Finished Worn) (UnderWay (Grab (l .turn))))
           (λ x. UnderWay (Point.Run (startOf x (l .turn)) Read)))
       go Free f = moved-pick s w (eqb (l .turn) lastTurn) _ _ _ _ (moved-finish s w h b _) (moved-grab s w h b _)
       go (By x) f = moved-start s w h b x (l .turn) f

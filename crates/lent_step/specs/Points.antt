@@ -7,10 +7,10 @@ use Rattle.cells.specs.Layout.{unpack, numberAt, runNow, readNow, seenNow, putL
 use Rattle.lent_moves.specs.Looks.{ownNow, lockPlace, lockNow, registersNow, instrNow, wordPlace, wordNow, entryPlace, entryNow, sheetNow, sumNow, differenceNow, answerNow}
 use Rattle.lent_moves.specs.Moves.{toGrab, toLookAgain, toReadMark, started, passed, went, toMark, toCommit, logged, loaded, toSwap, toRelease, finished, counted}
 
--- 1. Look, by the lock word that it finds
+-- 1. Look, by the lock word that it finds; worn where that is free at the last turn
 unfoldable pub looked : List ℕ → ℕ → LockWord → List ℕ
 looked s w l =
-    onHolder (l .holder) (pick (eqb (l .turn) lastTurn) (finished s w NotTaken) (toGrab s w (l .turn)))
+    onHolder (l .holder) (pick (eqb (l .turn) lastTurn) (finished s w Worn) (toGrab s w (l .turn)))
     (λ sheet. started s w sheet (l .turn))
 
 unfoldable pub lookNumbers : List ℕ → ℕ → List ℕ

@@ -34,7 +34,7 @@ fn look_at(s: &mut [u32], w: usize, l: LockWord)
         Holder::By(sheet) => moves::start(s, w, sheet, l.turn),
         Holder::Free => {
             if l.turn == LAST_TURN {
-                moves::finish(s, w, Answer::NotTaken);
+                moves::finish(s, w, Answer::Worn);
                 return;
             }
             moves::to_grab(s, w, l.turn)

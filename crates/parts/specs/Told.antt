@@ -4,11 +4,12 @@ use Names.*
 use Rattle.parts.specs.Pick.{pick}
 
 infixr 20 _then_
--- "Collected answers: 1 ran, yes. 2 ran, no. 3 not taken"
+-- "Collected answers: 1 ran, yes. 2 ran, no. 3 not taken"; request 03: "Answer 4, worn"
 unfoldable pub answerNumber : Answer → ℕ
 answerNumber RanYes = 1
 answerNumber RanNo = 2
 answerNumber NotTaken = 3
+answerNumber Worn = 4
 
 -- the table's "No."
 unfoldable pub refusalNumber : Refusal → ℕ

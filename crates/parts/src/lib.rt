@@ -23,11 +23,13 @@ pub const ENTRIES: usize = SHEETS * INSTRUCTIONS;
 
 pub const LAST_TURN: u32 = 67108864;
 
-// What a finished try answers.
+// What a finished try answers. Not taken says that its job was not run, no more; worn says that too, and that its Look found its lock
+// free at the last turn.
 pub enum Answer {
     RanYes,
     RanNo,
     NotTaken,
+    Worn,
 }
 
 // Why a call is refused, in the order of their numbers; a case that has a place other than 0 holds it.
@@ -125,6 +127,7 @@ impl Answer {
             Answer::RanYes => 1,
             Answer::RanNo => 2,
             Answer::NotTaken => 3,
+            Answer::Worn => 4,
         }
     }
 }

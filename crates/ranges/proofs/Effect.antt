@@ -10,7 +10,7 @@ use Rattle.parts.specs.Numbers.{sheets, lastTurn}
 use Rattle.parts.specs.Parts as parts
 use Rattle.parts.specs.Parts.{registerOf, withRegister, committedOf, holdsOf, isFirst, readingOf, next32}
 use Rattle.parts.specs.Pick.{pick, onHolder, onFill}
-use Rattle.parts.specs.declared.Answer.the-variants.{NotTaken}
+use Rattle.parts.specs.declared.Answer.the-variants.{NotTaken, Worn}
 use Rattle.parts.specs.declared.Asks.{Asks}
 use Rattle.parts.specs.declared.Asks.the-variants.{Halt, Go, Touch}
 use Rattle.parts.specs.declared.Entry.{Entry}
@@ -218,8 +218,8 @@ module _ (L : ℕ) (some : 1 ≤ L) where
     where
       free :
           (b : Bool) → eqb (v .lock .turn) lastTurn ≡ b →
-          GoodView L (pick b (toOf v (Finished NotTaken)) (atOf v (Grab (v .lock .turn))))
-      free true e = to-good v (Finished NotTaken) g tt
+          GoodView L (pick b (toOf v (Finished Worn)) (atOf v (Grab (v .lock .turn))))
+      free true e = to-good v (Finished Worn) g tt
       free false e =
           let most = g .lock .turn in
           let other = eqb-false (v .lock .turn) lastTurn e in

@@ -8,7 +8,7 @@ use lib.Dec.{eqb}
 use Rattle.parts.specs.Pick.{pick}
 use Rattle.parts.specs.Told.{answerNumber, refusalNumber, refusalPlace}
 use Rattle.parts.specs.declared.Answer.{Answer}
-use Rattle.parts.specs.declared.Answer.the-variants.{RanYes, RanNo, NotTaken}
+use Rattle.parts.specs.declared.Answer.the-variants.{RanYes, RanNo, NotTaken, Worn}
 use Rattle.parts.specs.declared.Refusal.{Refusal}
 use Rattle.parts.specs.declared.Told.{Told}
 use Rattle.parts.specs.declared.Told.the-variants.{Accepted, Refused}
@@ -37,7 +37,7 @@ refusalAt n p =
     CallRecord)))))))))))))))
 
 unfoldable answerAt : ℕ → Answer
-answerAt n = pick (eqb n 1) RanYes (pick (eqb n 2) RanNo NotTaken)
+answerAt n = pick (eqb n 1) RanYes (pick (eqb n 2) RanNo (pick (eqb n 3) NotTaken Worn))
 
 refusal-back : (r : Refusal) → refusalAt (refusalNumber r) (refusalPlace r) ≡ r
 unfolding refusalAt refusalNumber refusalPlace
@@ -64,6 +64,7 @@ unfolding answerAt answerNumber
 answer-back RanYes = refl
 answer-back RanNo = refl
 answer-back NotTaken = refl
+answer-back Worn = refl
 
 -- two refusals with one number and one place are the same
 pub number-one : (r s : Refusal) → refusalNumber r ≡ refusalNumber s → refusalPlace r ≡ refusalPlace s → r ≡ s

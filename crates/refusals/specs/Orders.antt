@@ -10,7 +10,7 @@ use Rattle.steps.specs.Worker.{onState}
 use Rattle.engine.specs.Calls.{setupOf, beginOf, stepOf, collectOf, dropOf, readWordOf, readLockOf, isFree, showOf, shownOf, parkOf, parkedOf}
 use Rattle.engine.specs.State.{blankOf, lockCount, wordCount, locksOf, wordsOf, workerAt, lockAt, freeSheet, programLength}
 
--- "A worker is idle, under way at a named point of its try, or finished with one of three answers."
+-- "A worker is idle, under way at a named point of its try, or finished with one of three answers", of four since request 03
 abbrev pub stateOf : Engine → ℕ → State
 stateOf e w = workerAt e w .state
 

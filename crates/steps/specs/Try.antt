@@ -67,11 +67,11 @@ loggedOf r =
     }
 
 -- "1. Look. Remember the lock word. Held: help that sheet, go to 5. Free at turn 67,108,864: finish, not taken. Free otherwise:
--- go to 2."
+-- go to 2." Request 03, in place of this "not taken": "Answer 4, worn, is given exactly when Look finds the lock free at the last turn."
 unfoldable pub lookStep : View → View
 lookStep v =
     onHolder (v .lock .holder)
-    (pick (eqb (v .lock .turn) lastTurn) (toOf v (Finished NotTaken)) (atOf v (Grab (v .lock .turn))))
+    (pick (eqb (v .lock .turn) lastTurn) (toOf v (Finished Worn)) (atOf v (Grab (v .lock .turn))))
     (λ s. atOf v (Point.Run (startOf s (v .lock .turn)) Read))
 
 -- "2. Grab. If the lock word is still what was remembered, it becomes turn + 1, held by the worker's own sheet. Otherwise

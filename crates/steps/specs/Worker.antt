@@ -1,4 +1,4 @@
--- "A worker is idle, under way at a named point of its try, or finished with one of three answers."
+-- "A worker is idle, under way at a named point of its try, or finished with one of three answers." Request 03 has a fourth.
 mod Names
 use Names.*
 use Rattle.parts.specs.Parts.{next32}

@@ -85,7 +85,7 @@ impl View {
         self.to(State::UnderWay(p))
     }
 
-    // 1. Held: help that sheet. Free at the last turn: finish, not taken. Free otherwise: grab.
+    // 1. Held: help that sheet. Free at the last turn: finish, worn. Free otherwise: grab.
     pub fn look(self) -> View
         ensures { λ r. ⌜ r ≡ lookStep self ⌝ }
     {
@@ -95,7 +95,7 @@ impl View {
             Holder::By(s) => self.at(Point::Run(Run::start(s, l.turn), Stage::Read)),
             Holder::Free => {
                 if l.turn == LAST_TURN {
-                    return self.to(State::Finished(Answer::NotTaken));
+                    return self.to(State::Finished(Answer::Worn));
                 }
                 self.at(Point::Grab(l.turn))
             }

@@ -11,11 +11,11 @@ use Rattle.records.specs.Bytes.{AllBytes}
 use Rattle.tables.specs.Table.{setupS, jobA, jobSkipping, jobB}
 
 -- every element passes the test
-unfoldable allBelow : List ℕ → Bool
+unfoldable pub allBelow : List ℕ → Bool
 allBelow [] = true
 allBelow (b ∷ s) = pick (ltb b 256) (allBelow s) false
 
-all-bytes : (s : List ℕ) → allBelow s ≡ true → AllBytes s
+pub all-bytes : (s : List ℕ) → allBelow s ≡ true → AllBytes s
 unfolding allBelow
 all-bytes [] h k = omega arith
 all-bytes (b ∷ s) h k = go (ltb b 256) refl h (all-bytes s) k

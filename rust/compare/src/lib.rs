@@ -88,6 +88,8 @@ mod tests {
         for number in (0..=16).filter(|&number| number != 10) {
             assert!(pair.told[number] >= 10, "{number}: {:?}", pair.told);
         }
+        let answers = pair.answers;
+        assert!(answers.iter().all(|&times| times >= 10), "{answers:?}");
         let records = &pair.records;
         assert!(records.count() >= 25_000);
         for number in [0, 5, 6, 13, 17] {
@@ -117,7 +119,8 @@ mod tests {
         assert!(apart >= 80 && noticed >= 70 && noticed <= apart);
     }
 
-    /// Nor is it where a third engine takes a shortcut or miscounts.
+    /// Nor is it where a third engine takes a shortcut, miscounts or answers
+    /// wrongly.
     #[test]
     fn a_third_that_is_wrong() {
         for wrong in [
@@ -130,6 +133,8 @@ mod tests {
             Wrong::OwnReading,
             Wrong::EveryCommitCounts,
             Wrong::OwnSheetCounts,
+            Wrong::NotTakenOfWorn,
+            Wrong::WornAtStepFour,
         ] {
             let third = Box::new(Second(Engine::wrong(wrong)));
             let found = compare(1, 200_000, Some(third), |_| ());

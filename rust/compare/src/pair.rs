@@ -60,6 +60,8 @@ pub struct Pair {
     pub readings: u64,
     /// How many calls were refused with each number; at 0 those accepted.
     pub told: [u64; 32],
+    /// How many collects told each answer; at 0 those refused.
+    pub answers: [u64; 5],
 }
 
 impl Pair {
@@ -76,6 +78,7 @@ impl Pair {
             calls: 0,
             readings: 0,
             told: [0; 32],
+            answers: [0; 5],
         }
     }
 
@@ -108,6 +111,9 @@ impl Pair {
         let fill = self.calls as u8;
         let second = Told::by(&mut self.second, call, fill);
         let number = second.number();
+        if let Told::Collected(told) = &second {
+            self.answers[told.answer as usize] += 1;
+        }
         let kept = number != 0 || reads(call);
         if kept {
             self.before[..NUMBERS].copy_from_slice(&self.archive.0[..NUMBERS]);

@@ -4,7 +4,7 @@ pub use mathlib.Core.Bool.{Bool}
 pub use mathlib.Core.List.{List, [], _∷_}
 pub use lib.Dec.{eqb}
 pub use lib.ListN.{getD}
-pub use Rattle.parts.specs.declared.Answer.the-variants.{RanYes, RanNo, NotTaken}
+pub use Rattle.parts.specs.declared.Answer.the-variants.{RanYes, RanNo, NotTaken, Worn}
 pub use Rattle.parts.specs.declared.Answer.{Answer}
 pub use Rattle.parts.specs.declared.Entry.{Entry}
 pub use Rattle.parts.specs.declared.Fill.the-variants.{Empty, Filled}

@@ -9,7 +9,7 @@ use borrow.Author.Tests.{eq-eqb}
 use Rattle.parts.specs.Numbers.{workers, instructions, trySteps}
 use Rattle.parts.specs.Pick.{pick}
 use Rattle.parts.specs.declared.Answer.{Answer}
-use Rattle.parts.specs.declared.Answer.the-variants.{RanYes, RanNo, NotTaken}
+use Rattle.parts.specs.declared.Answer.the-variants.{RanYes, RanNo, NotTaken, Worn}
 use Rattle.parts.specs.declared.Holder.the-variants.{Free, By}
 use Rattle.parts.specs.declared.Told.{Told}
 use Rattle.parts.specs.declared.Told.the-variants.{Accepted, Refused}
@@ -185,10 +185,10 @@ demand-3 p =
                 e seat idle bytes job;
             ran = ran-told e₀ u₀ x s;
             notTaken =
-                λ w n m e more b l.
+                λ w n m worn e more b l.
                 over-follow (rulesOf e₀) x more (x .tries w .number) s b
-                (over-told (rulesOf e₀) (sceneOf (x .state)) (taleOf x) (s .next .st) (s .next .ok) w
-                (tells (x .state) w NotTaken n m e .state))
+                (over-told (rulesOf e₀) (sceneOf (x .state)) (taleOf x) (s .next .st) (s .next .ok) w worn
+                (tells (x .state) w (pick worn Worn NotTaken) n m e .state))
                 .none l;
             listed = listed-past p;
             once = s .next .ok .once;

@@ -11,7 +11,7 @@ use Rattle.parts.specs.Numbers.{workers}
 use Rattle.parts.specs.Pick.{pick, _or_}
 use Rattle.parts.specs.declared.Holder.the-variants.{By}
 use Rattle.steps.specs.Places.{helpedOf}
-use Rattle.steps.specs.Worker.{worker0, lookingOf, beganOf}
+use Rattle.steps.specs.Worker.{worker0, lookingOf}
 use Rattle.steps.specs.declared.State.{State}
 use Rattle.steps.specs.declared.State.the-variants.{Idle, UnderWay, Finished}
 use Rattle.steps.specs.declared.Worker.{Worker}
@@ -19,22 +19,16 @@ use Rattle.engine.specs.Calls.{takenOf, begunOf}
 use Rattle.engine.specs.Inner.{Begins}
 use Rattle.engine.specs.State.{freeSheet, workerAt, withWorker}
 use Rattle.engine.specs.declared.Engine.{Engine}
-use Rattle.helping.specs.Machine.{put}
 use Rattle.helping.specs.Ok.{NotIdle}
 use Rattle.ranges.specs.Good.{Good}
-use Rattle.ranges.proofs.Programs.{looks}
 use Rattle.histories.specs.Filled.{madeFor, filledEntries}
 use Rattle.histories.specs.Filling.{latest}
 use Rattle.histories.specs.History.{Sofar, newTry, began, andNow}
-use Rattle.histories.proofs.map.Put.{set-put}
 use Rattle.histories.proofs.rules.Rules.{free-unused}
+use Rattle.histories.proofs.simulation.Workers.{worker-put, worker-begun}
 use Rattle.histories.proofs.filled.Entries.{emptied-here, emptied-there}
 use Rattle.histories.proofs.filled.Goes.{helpedIn, not-free}
 use Rattle.histories.proofs.filled.Kept.{Ledger, ledgerOf, Owned, Under, Hand, Keeps, Kept, hand-grows, made-grows, none-by, none-for}
-
--- the workers after one was put
-pub worker-put : (e : Engine) → Good e → (w : ℕ) (k : Worker) → w < workers → (v : ℕ) → workerAt (withWorker e w k) v ≡ put (workerAt e) w k v
-worker-put e g w k h v = ap (λ (f : ℕ → Worker). f v) (set-put (λ (x : Worker). x) (e .worker) w k worker0 (omega (arith, g .lengths .worker)))
 
 -- a worker made idle
 pub idled-keeps : (x : Sofar) → Good (x .state) → (w : ℕ) → w < workers → Kept x → Kept (andNow x (withWorker (x .state) w worker0))
@@ -82,14 +76,8 @@ module _ (x : Sofar) (g : Good (x .state)) (w l : ℕ) (rec : List ℕ) (b : Beg
         ran = x .ran;
       }
 
-  pub worker-now : (v : ℕ) → workerAt now v ≡ put (workerAt e) w (lookingOf l s₀) v
-  unfolding begunOf
-  worker-now v =
-      worker-put e g w (beganOf (workerAt e w) l s₀) (b .worker) v ∙
-      ap (λ (k : Worker). put (workerAt e) w k v) (looks (workerAt e w) l s₀ (b .idle))
-
   own-now : workerAt now w .own ≡ s₀
-  own-now = ap (λ (k : Worker). k .own) (worker-now w ∙ ap (λ (t : Bool). pick t (lookingOf l s₀) (workerAt e w)) (eq-eqb w w refl))
+  own-now = ap (λ (k : Worker). k .own) (worker-begun e g w l rec b w ∙ ap (λ (t : Bool). pick t (lookingOf l s₀) (workerAt e w)) (eq-eqb w w refl))
 
   ledger-now : ledgerOf (began x w l rec now) ≡ M
   ledger-now = ap (λ (n : ℕ). record { begins = suc (x .begins); owners = λ s. pick (eqb s n) (newTry x l rec ∷ x .owners s) (x .owners s); fillings = x .fillings; ran = x .ran }) own-now
@@ -214,7 +202,7 @@ module _ (x : Sofar) (g : Good (x .state)) (w l : ℕ) (rec : List ℕ) (b : Beg
             (λ (k : Worker).
             NotIdle (k .state) →
             Hand M k (pick (eqb v w) (newTry x l rec) (x .tries v) .number) (pick (eqb v w) 0 (x .steps v)))
-            (sym (worker-now v)) (hand-at v (eqb v w));
+            (sym (worker-begun e g w l rec b v)) (hand-at v (eqb v w));
         locks = λ k s h. owned-there s (o .locks k s h);
         made = made-grows L M (x .fillings) (omega arith) (λ n j h. h) (o .made);
         born = λ n j h. let m = o .born n j h in omega arith;

@@ -8,7 +8,7 @@ use Rattle.parts.specs.Instr.{asksOf, followsOf}
 use Rattle.parts.specs.Numbers.{lastTurn}
 use Rattle.parts.specs.Parts.{next32, committedOf, holdsOf, isFirst, grabOf, releaseOf}
 use Rattle.parts.specs.Pick.{pick, onHolder}
-use Rattle.parts.specs.declared.Answer.the-variants.{NotTaken}
+use Rattle.parts.specs.declared.Answer.the-variants.{NotTaken, Worn}
 use Rattle.parts.specs.declared.Fill.{Fill}
 use Rattle.parts.specs.declared.Fill.the-variants.{Empty, Filled}
 use Rattle.parts.specs.declared.Holder.{Holder}
@@ -94,9 +94,9 @@ module _ (v : View) (O : ℕ → Type 0) (held : (s : ℕ) → v .lock .holder �
       go :
           (h : Holder) (b : Bool) → v .lock .holder ≡ h →
           Goes v Look O
-          (onHolder h (pick b (toOf v (Finished NotTaken)) (atOf v (Grab (v .lock .turn))))
+          (onHolder h (pick b (toOf v (Finished Worn)) (atOf v (Grab (v .lock .turn))))
           (λ s. atOf v (Point.Run (startOf s (v .lock .turn)) Read)))
-      go Free true e = goes-to Look (Finished NotTaken) nowhere (λ s h. tt)
+      go Free true e = goes-to Look (Finished Worn) nowhere (λ s h. tt)
       go Free false e = goes-to Look (UnderWay (Grab (v .lock .turn))) nowhere (λ s h. absurd (not-free s h))
       go (By t) b e =
           goes-to Look (UnderWay (Point.Run (startOf t (v .lock .turn)) Read)) (λ s h. held s (e ∙ h)) (λ s h. absurd (not-free s h))

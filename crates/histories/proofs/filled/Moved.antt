@@ -15,7 +15,6 @@ use Rattle.parts.specs.declared.Holder.{Holder}
 use Rattle.parts.specs.declared.Holder.the-variants.{Free, By}
 use Rattle.parts.specs.declared.LockWord.{LockWord}
 use Rattle.steps.specs.Try.{effectOf}
-use Rattle.steps.specs.Worker.{worker0}
 use Rattle.steps.specs.declared.Point.{Point}
 use Rattle.steps.specs.declared.State.{State}
 use Rattle.steps.specs.declared.State.the-variants.{Idle, UnderWay, Finished}
@@ -24,14 +23,14 @@ use Rattle.steps.specs.declared.Worker.{Worker}
 use Rattle.engine.specs.State.{workerAt, lockAt}
 use Rattle.engine.specs.Step.{placesOf, viewAt, putAt, steppedOf}
 use Rattle.engine.specs.declared.Engine.{Engine}
-use Rattle.helping.specs.Machine.{Rules, put}
+use Rattle.helping.specs.Machine.{Rules}
 use Rattle.helping.specs.Ok.{NotIdle}
 use Rattle.helping.proofs.Ranges.{ranged}
 use Rattle.histories.specs.Filled.{madeBy, madeFor, filledEntries}
 use Rattle.histories.specs.Filling.{Filling, latest, runsSheet}
 use Rattle.histories.specs.History.{Sofar, runsJob, stepped}
-use Rattle.histories.proofs.map.Put.{set-put}
 use Rattle.histories.proofs.simulation.Standing.{Standing}
+use Rattle.histories.proofs.simulation.Workers.{worker-stepped}
 use Rattle.histories.proofs.filled.Fills.{Fills, nothing, entry, stepped-fills}
 use Rattle.histories.proofs.filled.Goes.{Goes, Runs, helpedIn, effect-goes}
 use Rattle.histories.proofs.filled.Kept.{Ledger, ledgerOf, Owned, Under, RunsOn, Hand, AllMade, Keeps, Kept, runs-helped, runs-one, hand-grows, made-grows}
@@ -81,12 +80,6 @@ module _ (K : Rules) (x : Sofar) (st : Standing K x) (w : ℕ) (h : w < workers)
 
   pub fills : Fills x w now
   fills = stepped-fills x (st .good) w h p q (goes .touch)
-
-  worker-now : (n : ℕ) → workerAt now n ≡ put (workerAt e) w (effectOf p v .worker) n
-  unfolding putAt placesOf
-  worker-now n =
-      ap (λ (f : ℕ → Worker). f n)
-      (set-put (λ (y : Worker). y) (e .worker) w (effectOf p v .worker) worker0 (omega (arith, st .good .lengths .worker)))
 
   lock-in : placesOf e w p .lock < length (e .lock)
   unfolding placesOf
@@ -157,10 +150,10 @@ module _ (K : Rules) (x : Sofar) (st : Standing K x) (w : ℕ) (h : w < workers)
   stepsNow n = pick (eqb n w) (suc (x .steps w)) (x .steps n)
 
   worker-here : workerAt now w ≡ effectOf p v .worker
-  worker-here = worker-now w ∙ ap (λ (b : Bool). pick b (effectOf p v .worker) (workerAt e w)) (eq-eqb w w refl)
+  worker-here = worker-stepped e (st .good) w h p w ∙ ap (λ (b : Bool). pick b (effectOf p v .worker) (workerAt e w)) (eq-eqb w w refl)
 
   pub worker-there : (n : ℕ) → (n ≡ w → ⊥) → workerAt now n ≡ workerAt e n
-  worker-there n d = worker-now n ∙ ap (λ (b : Bool). pick b (effectOf p v .worker) (workerAt e n)) (ne-eqb n w d)
+  worker-there n d = worker-stepped e (st .good) w h p n ∙ ap (λ (b : Bool). pick b (effectOf p v .worker) (workerAt e n)) (ne-eqb n w d)
 
   own-here : Owned L (effectOf p v .worker .own)
   unfolding viewAt placesOf

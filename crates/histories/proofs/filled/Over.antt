@@ -35,8 +35,7 @@ use Rattle.histories.specs.History.{Sofar, newTry, began, stepped, andNo
 use Rattle.histories.proofs.simulation.Comes as comes
 use Rattle.histories.proofs.simulation.Comes.{Comes}
 use Rattle.histories.proofs.simulation.Standing.{Standing, standing-then, cut-records}
-use Rattle.histories.proofs.filled.Begun as begun
-use Rattle.histories.proofs.filled.Begun.{worker-put}
+use Rattle.histories.proofs.simulation.Workers.{worker-put, worker-begun}
 use Rattle.histories.proofs.filled.Fills.{Fills, nothing, entry}
 use Rattle.histories.proofs.filled.Kept.{Kept}
 use Rattle.histories.proofs.filled.Moved as moved
@@ -64,7 +63,7 @@ module _ (K : Rules) (x : Sofar) (s : Standing K x) (o : Kept x) (n : ℕ) (g : 
         gone =
             record {
               born = let m = g .born in omega arith;
-              none = λ v p q. at v p (eqb v w) refl (sym (ap (λ (k : Worker). k .state) (begun.worker-now x (s .good) w l rec b o v)) ∙ q);
+              none = λ v p q. at v p (eqb v w) refl (sym (ap (λ (k : Worker). k .state) (worker-begun (x .state) (s .good) w l rec b v)) ∙ q);
             };
         number = refl;
       }

@@ -11,7 +11,7 @@ use Rattle.parts.specs.Numbers.{lastTurn}
 use Rattle.parts.specs.Parts as parts
 use Rattle.parts.specs.Parts.{next32, readingOf, committedOf, holdsOf, isFirst}
 use Rattle.parts.specs.Pick.{pick, onHolder, onFill}
-use Rattle.parts.specs.declared.Answer.the-variants.{NotTaken}
+use Rattle.parts.specs.declared.Answer.the-variants.{NotTaken, Worn}
 use Rattle.parts.specs.declared.Asks.{Asks}
 use Rattle.parts.specs.declared.Asks.the-variants.{Halt, Go, Touch}
 use Rattle.parts.specs.declared.Entry.{Entry}
@@ -67,10 +67,10 @@ look-is v = by (v .lock .holder) (eqb (v .lock .turn) lastTurn)
   where
     by :
         (h : Holder) (b : Bool) →
-        onHolder h (pick b (toOf v (Finished NotTaken)) (atOf v (Grab (v .lock .turn))))
+        onHolder h (pick b (toOf v (Finished Worn)) (atOf v (Grab (v .lock .turn))))
         (λ s. atOf v (Point.Run (startOf s (v .lock .turn)) Read)) ≡
         toOf v
-        (onHolder h (pick b (Finished NotTaken) (UnderWay (Grab (v .lock .turn))))
+        (onHolder h (pick b (Finished Worn) (UnderWay (Grab (v .lock .turn))))
         (λ s. UnderWay (Point.Run (startOf s (v .lock .turn)) Read)))
     by Free true = refl
     by Free false = refl

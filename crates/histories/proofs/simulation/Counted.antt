@@ -4,7 +4,7 @@ use mathlib.Core.Path.{_≡_, refl, sym, ap, subst}
 use mathlib.Core.Bool.{Bool, true, false}
 use lib.Dec.{eqb}
 use Rattle.parts.specs.Pick.{pick, onHolder}
-use Rattle.parts.specs.declared.Answer.the-variants.{NotTaken}
+use Rattle.parts.specs.declared.Answer.the-variants.{NotTaken, Worn}
 use Rattle.parts.specs.declared.Holder.{Holder}
 use Rattle.parts.specs.declared.Holder.the-variants.{Free, By}
 use Rattle.parts.specs.declared.LockWord.{LockWord}
@@ -36,7 +36,7 @@ busy-look last l = go (l .holder) (eqb (l .turn) last)
   where
     go :
         (h : Holder) (b : Bool) →
-        NotIdle (onHolder h (pick b (Finished NotTaken) (UnderWay (Grab (l .turn)))) (λ s. UnderWay (Point.Run (startOf s (l .turn)) Read)))
+        NotIdle (onHolder h (pick b (Finished Worn) (UnderWay (Grab (l .turn)))) (λ s. UnderWay (Point.Run (startOf s (l .turn)) Read)))
     go Free true = tt
     go Free false = tt
     go (By s) b = tt

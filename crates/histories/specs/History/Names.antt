@@ -8,11 +8,11 @@ pub use lib.Dec.{eqb}
 pub use lib.ListN.{getD, length}
 pub use Rattle.parts.specs.Instr.{asksOf, wordOf}
 pub use Rattle.parts.specs.Numbers.{workers, mostLocks, mostWords, sheets, instructions, lastTurn, trySteps, helpSteps}
-pub use Rattle.parts.specs.Parts.{instr0, next32, registerOf}
+pub use Rattle.parts.specs.Parts.{instr0, lock0, next32, registerOf}
 pub use Rattle.parts.specs.Pick.{pick, _or_, onHolder}
 pub use Rattle.parts.specs.Told.{onTold}
 pub use Rattle.parts.specs.declared.Answer.{Answer}
-pub use Rattle.parts.specs.declared.Answer.the-variants.{RanYes, RanNo, NotTaken}
+pub use Rattle.parts.specs.declared.Answer.the-variants.{RanYes, RanNo, NotTaken, Worn}
 pub use Rattle.parts.specs.declared.Asks.the-variants.{Go, Touch}
 pub use Rattle.parts.specs.declared.Holder.the-variants.{Free, By}
 pub use Rattle.parts.specs.declared.Instr.{Instr}

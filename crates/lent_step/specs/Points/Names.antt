@@ -8,7 +8,7 @@ pub use Rattle.parts.specs.Numbers.{sheets, lastTurn}
 pub use Rattle.parts.specs.Parts.{next32, readingOf, registerOf, holdsOf, swapOf, grabOf, releaseOf}
 pub use Rattle.parts.specs.Pick.{pick, onHolder, onFill}
 pub use Rattle.parts.specs.Told.{onTold}
-pub use Rattle.parts.specs.declared.Answer.the-variants.{NotTaken}
+pub use Rattle.parts.specs.declared.Answer.the-variants.{NotTaken, Worn}
 pub use Rattle.parts.specs.declared.Entry.{Entry}
 pub use Rattle.parts.specs.declared.Fill.the-variants.{Filled}
 pub use Rattle.parts.specs.declared.Instr.{Instr}

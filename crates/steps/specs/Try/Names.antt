@@ -3,7 +3,7 @@ pub use Prim.Native.Nat.{ℕ, _+_, _%_, _^_}
 pub use mathlib.Core.Bool.{Bool, true}
 pub use lib.Dec.{eqb}
 pub use Rattle.parts.specs.declared.Answer.{Answer}
-pub use Rattle.parts.specs.declared.Answer.the-variants.{RanYes, RanNo, NotTaken}
+pub use Rattle.parts.specs.declared.Answer.the-variants.{RanYes, RanNo, NotTaken, Worn}
 pub use Rattle.parts.specs.declared.Entry.{Entry}
 pub use Rattle.parts.specs.declared.LockWord.{LockWord}
 pub use Rattle.parts.specs.declared.Reading.{Reading}

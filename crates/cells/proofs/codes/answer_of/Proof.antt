@@ -11,4 +11,5 @@ answer-of-spec =
     (tie.spec
     (λ c. search laws)
     (λ c. search laws)
+    (λ c. search laws)
     (λ c. search laws))
