@@ -15,8 +15,7 @@ use Rattle.past.specs.Past.{Call, Begin, Step, Collect, Drop, ReadWord, ReadLoc
 -- 1. WHAT A HISTORY COMES TO: the state; how many begins were accepted; the try of each worker's last accepted begin, and the
 -- accepted steps of that worker since; the tries that won each lock, the latest first. For request 02: the tries that took each sheet,
 -- the latest first; every filling of a log entry, the latest first; and of each try, by its number, whether it made a step in a run of the
--- job of a try, its own or another, by that one's number. For request 03: what the Look of each
--- worker's try found, which is its first step.
+-- job of a try, its own or another, by that one's number. For request 03: what the Look of each worker's try, its first step, found.
 pub record Sofar : Type 0 where
   pub state : Engine
   pub begins : ℕ
@@ -66,7 +65,7 @@ began x w l rec e =
 abbrev pub wonBy : LockWord → LockWord → Bool
 wonBy before now = onHolder (before .holder) (onHolder (now .holder) false (λ s. true)) (λ s. false)
 
--- what worker w's step to state e filled: entry k is one of sheet k / 32, whose last owner's job it is
+-- what worker w's step to state e filled: an entry's number tells its sheet, whose last owner's job it is
 abbrev pub filledBy : Sofar → ℕ → Engine → List Filling
 filledBy x w e =
     newFrom
