@@ -15,7 +15,8 @@ use Rattle.past.specs.Past.{Call, Begin, Step, Collect, Drop, ReadWord, ReadLoc
 -- 1. WHAT A HISTORY COMES TO: the state; how many begins were accepted; the try of each worker's last accepted begin, and the
 -- accepted steps of that worker since; the tries that won each lock, the latest first. For request 02: the tries that took each sheet,
 -- the latest first; every filling of a log entry, the latest first; and of each try, by its number, whether it made a step in a run of the
--- job of a try, its own or another, by that one's number. For request 03: what the Look of each worker's try, its first step, found.
+-- job of a try, its own or another, by that one's number. For request 03: what the Look of each worker's try, its first step, found;
+-- before it, `lock0`.
 pub record Sofar : Type 0 where
   pub state : Engine
   pub begins : ℕ
@@ -57,7 +58,7 @@ began x w l rec e =
       owners = λ s. pick (eqb s (workerAt e w .own)) (newTry x l rec ∷ x .owners s) (x .owners s);
       fillings = x .fillings;
       ran = x .ran;
-      found = x .found;
+      found = λ v. pick (eqb v w) lock0 (x .found v);
     }
 
 -- "Grab. .. it becomes turn + 1, held by the worker's own sheet": a lock that was free before a step and is held after it, was won

@@ -8,7 +8,7 @@ use borrow.Author.Tests.{eqb-true, eqb-false, eq-eqb, ne-eqb}
 use lib.Dec.{eqb}
 use lib.ListN.{length}
 use Rattle.parts.specs.Numbers.{workers}
-use Rattle.parts.specs.Pick.{pick, _or_}
+use Rattle.parts.specs.Pick.{pick}
 use Rattle.parts.specs.declared.Holder.the-variants.{By}
 use Rattle.steps.specs.Places.{helpedOf}
 use Rattle.steps.specs.Worker.{worker0, lookingOf}
@@ -25,7 +25,7 @@ use Rattle.histories.specs.Filled.{madeFor, filledEntries}
 use Rattle.histories.specs.Filling.{latest}
 use Rattle.histories.specs.History.{Sofar, newTry, began, andNow}
 use Rattle.histories.proofs.rules.Rules.{free-unused}
-use Rattle.histories.proofs.simulation.Workers.{worker-put, worker-begun}
+use Rattle.histories.proofs.simulation.Pieces.{worker-put, worker-begun}
 use Rattle.histories.proofs.filled.Entries.{emptied-here, emptied-there}
 use Rattle.histories.proofs.filled.Goes.{helpedIn, not-free}
 use Rattle.histories.proofs.filled.Kept.{Ledger, ledgerOf, Owned, Under, Hand, Keeps, Kept, hand-grows, made-grows, none-by, none-for}

@@ -25,12 +25,12 @@ use Rattle.histories.specs.Filled.{madeBy, madeFor, sumOf, filledEntries
 use Rattle.histories.specs.Filling.{Filling, latest}
 use Rattle.histories.specs.History.{Sofar, thenOf, follow, sofar}
 use Rattle.histories.proofs.demand.Demand.{tells}
-use Rattle.histories.proofs.simulation.Comes.{comes}
+use Rattle.histories.proofs.simulation.Follows.{follow-keeps}
 use Rattle.histories.proofs.simulation.Standing.{Standing, standing-then, standing-past}
 use Rattle.histories.proofs.filled.Entries.{sum-same, sum-but, sum-none}
-use Rattle.histories.proofs.filled.Keep.{comes-keeps, kept-past}
+use Rattle.histories.proofs.filled.Keep.{kept-past}
 use Rattle.histories.proofs.filled.Kept.{Ledger, ledgerOf, Made, AllMade, Kept}
-use Rattle.histories.proofs.filled.Over.{Gone, still-follow, dropped-still}
+use Rattle.histories.proofs.filled.Over.{Gone, stills, dropped-still}
 
 -- The numbers of the tries that ran a job add up to its fillings: each filling is of one try, which ran that job and no other.
 module _ (L : Ledger) (one : (n i j : ℕ) → L .ran n i ≡ true → L .ran n j ≡ true → i ≡ j) (j : ℕ) where
@@ -118,7 +118,9 @@ module _ (K : Rules) (x : Sofar) (s : Standing K x) (o : Kept x) where
       let t = tells e w a n m h in
       let y = subst NotIdle (sym (t .state)) tt in
       t .filled ∙ o .hands w y .count ∙
-      sym (still-follow K x more (x .tries w .number) s b o (gone-by w y (λ p q. ended (sym (t .state) ∙ q))))
+      sym
+      (follow-keeps K _ (stills K (x .tries w .number) _) x more s b
+      (record { kept = o; gone = gone-by w y (λ p q. ended (sym (t .state) ∙ q)); number = refl }) .number)
     where
       ended : {a : Answer} {p : Point} → Finished a ≡ UnderWay p → ⊥
       ended z = let z : _≡_ {A = ℕ} 0 1 = cc in omega arith
@@ -128,12 +130,10 @@ module _ (K : Rules) (x : Sofar) (s : Standing K x) (o : Kept x) where
       workerAt e w .filled ≡ numberOf (follow (thenOf x (Drop w)) more) (x .tries w .number)
   unfolding AllRecords
   lost-of w y more b =
-      let d = dropped-still K x s w y in
       o .hands w y .count ∙
       sym
-      (still-follow K (thenOf x (Drop w)) more (x .tries w .number) (standing-then K x (Drop w) s tt) b
-      (comes-keeps K x (thenOf x (Drop w)) s o (comes x (Drop w))) (d .gone) ∙
-      d .number)
+      (follow-keeps K _ (stills K (x .tries w .number) _) (thenOf x (Drop w)) more (standing-then K x (Drop w) s tt) b
+      (dropped-still K x s o w y) .number)
 
 pub shares : (p : Past) → Shares (sofar p)
 shares p =

@@ -7,8 +7,7 @@ use borrow.Author.Tests.{eqb-true, eqb-false}
 use mathlib.Core.Bool.{Bool, true, false}
 use lib.Dec.{eqb}
 use lib.ListN.{length}
-use lib.Seq.{getD-set-same}
-use Rattle.parts.specs.Numbers.{workers, sheets, instructions, entries}
+use Rattle.parts.specs.Numbers.{workers, sheets, instructions}
 use Rattle.parts.specs.Parts.{next32}
 use Rattle.parts.specs.declared.Fill.{Fill}
 use Rattle.parts.specs.declared.Fill.the-variants.{Empty, Filled}
@@ -16,7 +15,6 @@ use Rattle.parts.specs.declared.Holder.the-variants.{By}
 use Rattle.parts.specs.declared.Reading.{Reading}
 use Rattle.steps.specs.Places.{spotOf}
 use Rattle.steps.specs.Try.{effectOf}
-use Rattle.steps.specs.Worker.{worker0}
 use Rattle.steps.specs.declared.Point.{Point}
 use Rattle.steps.specs.declared.Run.{Run}
 use Rattle.steps.specs.declared.Stage.{Stage}
@@ -31,6 +29,7 @@ use Rattle.ranges.proofs.Keep.{point-good}
 use Rattle.histories.specs.Filled.{filledEntries}
 use Rattle.histories.specs.Filling.{Filling, latest, runsSheet, runsAt}
 use Rattle.histories.specs.History.{Sofar, filledBy}
+use Rattle.histories.proofs.simulation.Pieces.{worker-here}
 use Rattle.histories.proofs.filled.Entries.{marked, filledAt, new-set, filled-here, filled-there}
 use Rattle.histories.proofs.filled.Goes.{Touch, none, one}
 
@@ -69,10 +68,6 @@ module _ (x : Sofar) (g : Good (x .state)) (w : ℕ) (h : w < workers) (p : Poin
   inside : baseOf s + k < length (e .entry)
   inside = omega (arith, g .lengths .entry)
 
-  worker-now : workerAt now w ≡ effectOf p v .worker
-  unfolding putAt placesOf
-  worker-now = getD-set-same (e .worker) w _ worker0 (omega (arith, g .lengths .worker))
-
   abbrev make : ℕ → Reading → Filling
   make n what =
       record {
@@ -110,7 +105,7 @@ module _ (x : Sofar) (g : Good (x .state)) (w : ℕ) (h : w < workers) (p : Poin
   count-was = refl
 
   count-now : (n : ℕ) → effectOf p v .worker .filled ≡ n → workerAt now w .filled ≡ n
-  count-now n c = ap (λ (k : Worker). k .filled) worker-now ∙ c
+  count-now n c = ap (λ (k : Worker). k .filled) (worker-here e g w h p) ∙ c
 
   -- a run's step is at the run's sheet
   sheet-is : (r : Run) (at : Stage) → p ≡ Point.Run r at → s ≡ r .sheet

@@ -1,5 +1,5 @@
 -- An accepted step keeps it.
-use Prim.Native.Nat.{ℕ, suc, _+_, _<_, _≤_}
+use Prim.Native.Nat.{ℕ, suc, _<_, _≤_}
 use mathlib.Core.Bool.{Bool, true, false}
 use mathlib.Core.List.{List, _∷_, _++_}
 use mathlib.Core.Path.{_≡_, refl, sym, ap, _∙_, subst}
@@ -7,9 +7,8 @@ use native.Mathlib.Omega.{arith}
 use borrow.Author.Tests.{eqb-true, eqb-false, eq-eqb, ne-eqb}
 use lib.Dec.{eqb}
 use lib.ListN.{length}
-use lib.Seq.{getD-set-same, getD-set-other}
 use Rattle.parts.specs.Numbers.{workers, instructions, trySteps}
-use Rattle.parts.specs.Parts.{next32, lock0}
+use Rattle.parts.specs.Parts.{next32}
 use Rattle.parts.specs.Pick.{pick, _or_, onHolder}
 use Rattle.parts.specs.declared.Holder.{Holder}
 use Rattle.parts.specs.declared.Holder.the-variants.{Free, By}
@@ -21,16 +20,17 @@ use Rattle.steps.specs.declared.State.the-variants.{Idle, UnderWay, Finished}
 use Rattle.steps.specs.declared.View.{View}
 use Rattle.steps.specs.declared.Worker.{Worker}
 use Rattle.engine.specs.State.{workerAt, lockAt}
-use Rattle.engine.specs.Step.{placesOf, viewAt, putAt, steppedOf}
+use Rattle.engine.specs.Step.{placesOf, viewAt, steppedOf}
 use Rattle.engine.specs.declared.Engine.{Engine}
 use Rattle.helping.specs.Machine.{Rules}
 use Rattle.helping.specs.Ok.{NotIdle}
+use Rattle.helping.proofs.Put.{put-case}
 use Rattle.helping.proofs.Ranges.{ranged}
 use Rattle.histories.specs.Filled.{madeBy, madeFor, filledEntries}
 use Rattle.histories.specs.Filling.{Filling, latest, runsSheet}
 use Rattle.histories.specs.History.{Sofar, runsJob, stepped}
 use Rattle.histories.proofs.simulation.Standing.{Standing}
-use Rattle.histories.proofs.simulation.Workers.{worker-stepped}
+use Rattle.histories.proofs.simulation.Pieces.{worker-here, worker-there, lock-stepped}
 use Rattle.histories.proofs.filled.Fills.{Fills, nothing, entry, stepped-fills}
 use Rattle.histories.proofs.filled.Goes.{Goes, Runs, helpedIn, effect-goes}
 use Rattle.histories.proofs.filled.Kept.{Ledger, ledgerOf, Owned, Under, RunsOn, Hand, AllMade, Keeps, Kept, runs-helped, runs-one, hand-grows, made-grows}
@@ -39,8 +39,8 @@ or-true : (a b : Bool) → b ≡ true → (a or b) ≡ true
 or-true true b h = refl
 or-true false b h = h
 
-module _ (K : Rules) (x : Sofar) (st : Standing K x) (w : ℕ) (h : w < workers) (p : Point)
-    (q : workerAt (x .state) w .state ≡ UnderWay p) (o : Kept x) where
+module _ (K : Rules) (x : Sofar) (st : Standing K x) (o : Kept x) (w : ℕ) (p : Point) (h : w < workers)
+    (q : workerAt (x .state) w .state ≡ UnderWay p) where
   abbrev e : Engine
   e = x .state
 
@@ -81,22 +81,10 @@ module _ (K : Rules) (x : Sofar) (st : Standing K x) (w : ℕ) (h : w < workers)
   pub fills : Fills x w now
   fills = stepped-fills x (st .good) w h p q (goes .touch)
 
-  lock-in : placesOf e w p .lock < length (e .lock)
-  unfolding placesOf
-  lock-in = omega (arith, st .good .lengths .lock)
-
   lock-now : (l s : ℕ) → lockAt now l .holder ≡ By s → Owned L s
-  unfolding putAt
-  lock-now l s z = go (eqb l at) refl
-    where
-      at : ℕ
-      at = placesOf e w p .lock
-
-      go : (b : Bool) → eqb l at ≡ b → Owned L s
-      go true c =
-          goes .lock s
-          (sym (ap (λ (y : LockWord). y .holder) (ap (λ (n : ℕ). lockAt now n) (eqb-true l at c) ∙ getD-set-same (e .lock) at _ lock0 lock-in)) ∙ z)
-      go false c = o .locks l s (sym (ap (λ (y : LockWord). y .holder) (getD-set-other (e .lock) at l _ lock0 (eqb-false l at c))) ∙ z)
+  lock-now l s z =
+      put-case (lockAt e) (placesOf e w p .lock) (effectOf p v .lock) (λ (y : LockWord). y .holder ≡ By s → Owned L s) l
+      (λ n. goes .lock s) (λ n. o .locks l s) (sym (ap (λ (y : LockWord). y .holder) (lock-stepped e (st .good) w p l)) ∙ z)
 
   -- the try's runs, now and before
   ran-here : (j : ℕ) → M .ran t₀ j ≡ (x .ran t₀ j or runsJob x w j)
@@ -149,12 +137,6 @@ module _ (K : Rules) (x : Sofar) (st : Standing K x) (w : ℕ) (h : w < workers)
   abbrev stepsNow : ℕ → ℕ
   stepsNow n = pick (eqb n w) (suc (x .steps w)) (x .steps n)
 
-  worker-here : workerAt now w ≡ effectOf p v .worker
-  worker-here = worker-stepped e (st .good) w h p w ∙ ap (λ (b : Bool). pick b (effectOf p v .worker) (workerAt e w)) (eq-eqb w w refl)
-
-  pub worker-there : (n : ℕ) → (n ≡ w → ⊥) → workerAt now n ≡ workerAt e n
-  worker-there n d = worker-stepped e (st .good) w h p n ∙ ap (λ (b : Bool). pick b (effectOf p v .worker) (workerAt e n)) (ne-eqb n w d)
-
   own-here : Owned L (effectOf p v .worker .own)
   unfolding viewAt placesOf
   own-here = subst (Owned L) (sym (goes .own)) (hand .own)
@@ -170,7 +152,7 @@ module _ (K : Rules) (x : Sofar) (st : Standing K x) (w : ℕ) (h : w < workers)
       (bare : (s : ℕ) → length (x .owners s) ≡ 0 → filledEntries now s ≡ 0) where
     hand-here : Hand (N fs) (effectOf p v .worker) t₀ (suc (x .steps w))
     hand-here =
-        let y = ap (λ (k : Worker). k .filled) worker-here in
+        let y = ap (λ (k : Worker). k .filled) (worker-here e (st .good) w h p) in
         record {
           count = sym y ∙ count;
           low = subst (λ (n : ℕ). n ≤ suc (x .steps w)) y low;
@@ -196,13 +178,13 @@ module _ (K : Rules) (x : Sofar) (st : Standing K x) (w : ℕ) (h : w < workers)
     hands-now n y = go (eqb n w) refl
       where
         here : Hand (N fs) (workerAt now w) t₀ (suc (x .steps w))
-        here = subst (λ (k : Worker). Hand (N fs) k t₀ (suc (x .steps w))) (sym worker-here) hand-here
+        here = subst (λ (k : Worker). Hand (N fs) k t₀ (suc (x .steps w))) (sym (worker-here e (st .good) w h p)) hand-here
 
         go : (b : Bool) → eqb n w ≡ b → Hand (N fs) (workerAt now n) (x .tries n .number) (pick b (suc (x .steps w)) (x .steps n))
         go true z = subst (λ (m : ℕ). Hand (N fs) (workerAt now m) (x .tries m .number) (suc (x .steps w))) (sym (eqb-true n w z)) here
         go false z =
             let d = eqb-false n w z in
-            let k = worker-there n d in
+            let k = worker-there e (st .good) w h p n d in
             subst (λ (k : Worker). Hand (N fs) k (x .tries n .number) (x .steps n)) (sym k)
             (hand-there n d (subst (λ (k : Worker). NotIdle (k .state)) k y))
 

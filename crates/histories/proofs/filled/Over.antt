@@ -1,11 +1,11 @@
 -- A try that is over fills nothing more: its number stays, whatever calls follow.
-use Prim.Native.Nat.{ℕ, zero, suc, _+_, _<_, _≤_}
+use Prim.Native.Nat.{ℕ, zero, suc, _<_, _≤_}
 use mathlib.Core.Bool.{Bool, true, false}
 use mathlib.Core.List.{List, [], _∷_, _++_}
 use mathlib.Core.Logic.{_≢_, ⊎-elim}
 use mathlib.Core.Path.{_≡_, refl, sym, ap, _∙_, subst}
 use native.Mathlib.Omega.{arith}
-use borrow.Author.Tests.{eqb-true, eqb-false, ne-eqb, lt-leb}
+use borrow.Author.Tests.{ne-eqb, lt-leb}
 use lib.Dec.{eqb}
 use lib.ListN.{getD, length}
 use Rattle.parts.specs.Numbers.{workers}
@@ -25,104 +25,104 @@ use Rattle.engine.specs.declared.Engine.{Engine}
 use Rattle.engine.specs.declared.Outcome.{Outcome}
 use Rattle.helping.specs.Machine.{Rules}
 use Rattle.helping.specs.Ok.{NotIdle}
-use Rattle.past.specs.Past.{Call, Drop, AllRecords}
+use Rattle.helping.proofs.Put.{put-case, all-but}
+use Rattle.past.specs.Past.{Drop}
 use Rattle.past.proofs.Accepted.{one-of, dropped-is, drop-told}
 use Rattle.ranges.specs.Good.{Good}
 use Rattle.ranges.proofs.Frame.{below-or-not}
 use Rattle.histories.specs.Filled.{madeBy}
 use Rattle.histories.specs.Filling.{Filling}
-use Rattle.histories.specs.History.{Sofar, newTry, began, stepped, andNow, filledBy, thenOf, follow}
-use Rattle.histories.proofs.simulation.Comes as comes
-use Rattle.histories.proofs.simulation.Comes.{Comes}
-use Rattle.histories.proofs.simulation.Standing.{Standing, standing-then, cut-records}
-use Rattle.histories.proofs.simulation.Workers.{worker-put, worker-begun}
+use Rattle.histories.specs.History.{Sofar, newTry, began, stepped, andNow, filledBy, thenOf}
+use Rattle.histories.proofs.simulation.Follows.{KeptBy}
+use Rattle.histories.proofs.simulation.Pieces.{worker-put, worker-begun, worker-there}
+use Rattle.histories.proofs.simulation.Standing.{Standing}
 use Rattle.histories.proofs.filled.Fills.{Fills, nothing, entry}
 use Rattle.histories.proofs.filled.Kept.{Kept}
-use Rattle.histories.proofs.filled.Moved as moved
-use Rattle.histories.proofs.filled.Keep.{comes-keeps}
+use Rattle.histories.proofs.filled.Moved.{fills}
+use Rattle.histories.proofs.filled.Keep.{keeps}
 
 -- no worker is under way with the try of number n
 pub record Gone (x : Sofar) (n : ℕ) : Type 0 where
   pub born : n < x .begins
   pub none : (v : ℕ) (p : Point) → workerAt (x .state) v .state ≡ UnderWay p → x .tries v .number ≢ n
 
--- and what it filled is what it had filled
-pub record Still (x y : Sofar) (n : ℕ) : Type 0 where
-  pub gone : Gone y n
-  pub number : madeBy n (y .fillings) ≡ madeBy n (x .fillings)
+-- and it filled m entries
+pub record Still (n m : ℕ) (x : Sofar) : Type 0 where
+  pub kept : Kept x
+  pub gone : Gone x n
+  pub number : madeBy n (x .fillings) ≡ m
 
 made-other : (n : ℕ) (f : Filling) (fs : List Filling) → f .by ≢ n → madeBy n (f ∷ fs) ≡ madeBy n fs
 unfolding madeBy
 made-other n f fs d = simp (ne-eqb (f .by) n d) (omega arith)
 
-module _ (K : Rules) (x : Sofar) (s : Standing K x) (o : Kept x) (n : ℕ) (g : Gone x n) where
+-- a worker that is under way once another is made idle
+idle-other :
+    (e : Engine) → Good e → (w : ℕ) → w < workers → (v : ℕ) (p : Point) →
+    workerAt (withWorker e w worker0) v .state ≡ UnderWay p → (v ≢ w) × (workerAt e v .state ≡ UnderWay p)
+idle-other e g w h v p q =
+    put-case (workerAt e) w worker0 (λ (k : Worker). k .state ≡ UnderWay p → (v ≢ w) × (workerAt e v .state ≡ UnderWay p)) v
+    (λ n z. let z : _≡_ {A = ℕ} 0 1 = cc in absurd (omega arith)) (λ n z. (n, z))
+    (sym (ap (λ (k : Worker). k .state) (worker-put e g w worker0 h v)) ∙ q)
+
+module _ (K : Rules) (n m : ℕ) (x : Sofar) (s : Standing K x) (i : Still n m x) where
   begun-still :
-      (w l : ℕ) (rec : List ℕ) → Begins (x .state) w l rec → Still x (began x w l rec (takenOf (x .state) w l rec)) n
+      (w l : ℕ) (rec : List ℕ) → Begins (x .state) w l rec → Still n m (began x w l rec (takenOf (x .state) w l rec))
   begun-still w l rec b =
       record {
+        kept = keeps K .begun x s (i .kept) w l rec b;
         gone =
             record {
-              born = let m = g .born in omega arith;
-              none = λ v p q. at v p (eqb v w) refl (sym (ap (λ (k : Worker). k .state) (worker-begun (x .state) (s .good) w l rec b v)) ∙ q);
+              born = let c = i .gone .born in omega arith;
+              none = λ v p q. at v p (eqb v w) (sym (ap (λ (k : Worker). k .state) (worker-begun (x .state) (s .good) w l rec b v)) ∙ q);
             };
-        number = refl;
+        number = i .number;
       }
     where
       at :
-          (v : ℕ) (p : Point) (t : Bool) → eqb v w ≡ t → pick t (lookingOf l (freeSheet (x .state))) (workerAt (x .state) v) .state ≡ UnderWay p →
+          (v : ℕ) (p : Point) (t : Bool) → pick t (lookingOf l (freeSheet (x .state))) (workerAt (x .state) v) .state ≡ UnderWay p →
           pick t (newTry x l rec) (x .tries v) .number ≢ n
-      at v p true z q = λ m. let c = g .born in omega arith
-      at v p false z q = g .none v p q
+      at v p true q = λ m. let c = i .gone .born in omega arith
+      at v p false q = i .gone .none v p q
 
   -- a worker that was under way may still be; no other is
   moved-still :
       (w : ℕ) (p : Point) → w < workers → workerAt (x .state) w .state ≡ UnderWay p →
-      Still x (stepped x w (steppedOf (x .state) w p)) n
+      Still n m (stepped x w (steppedOf (x .state) w p))
   moved-still w p h q =
       record {
-        gone = record { born = g .born; none = λ v r z. at v r (eqb v w) refl z };
-        number = filled (moved.fills K x s w h p q o);
+        kept = keeps K .moved x s (i .kept) w p h q;
+        gone =
+            record {
+              born = i .gone .born;
+              none =
+                  all-but (λ (v : ℕ). (r : Point) → workerAt now v .state ≡ UnderWay r → x .tries v .number ≢ n) w
+                  (λ r z. i .gone .none w p q)
+                  (λ v d r z. i .gone .none v r (sym (ap (λ (k : Worker). k .state) (worker-there (x .state) (s .good) w h p v d)) ∙ z));
+            };
+        number = same (fills K x s (i .kept) w p h q) ∙ i .number;
       }
     where
-      at : (v : ℕ) (r : Point) (t : Bool) → eqb v w ≡ t → workerAt (steppedOf (x .state) w p) v .state ≡ UnderWay r → x .tries v .number ≢ n
-      at v r true z u = subst (λ (m : ℕ). x .tries m .number ≢ n) (sym (eqb-true v w z)) (g .none w p q)
-      at v r false z u =
-          g .none v r (sym (ap (λ (k : Worker). k .state) (moved.worker-there K x s w h p q o v (eqb-false v w z))) ∙ u)
+      now : Engine
+      now = steppedOf (x .state) w p
 
-      more : (f : Filling) → f .by ≡ x .tries w .number → madeBy n (f ∷ x .fillings) ≡ madeBy n (x .fillings)
-      more f by = made-other n f (x .fillings) (λ z. g .none w p q (sym by ∙ z))
+      same : Fills x w now → madeBy n (filledBy x w now ++ x .fillings) ≡ madeBy n (x .fillings)
+      same (nothing a b c) = ap (λ (new : List Filling). madeBy n (new ++ x .fillings)) a
+      same (entry t f at job by a count here there) =
+          ap (λ (new : List Filling). madeBy n (new ++ x .fillings)) a ∙
+          made-other n f (x .fillings) (λ z. i .gone .none w p q (sym by ∙ z))
 
-      filled : Fills x w (steppedOf (x .state) w p) → madeBy n (filledBy x w (steppedOf (x .state) w p) ++ x .fillings) ≡ madeBy n (x .fillings)
-      filled (nothing a b c) = ap (λ (new : List Filling). madeBy n (new ++ x .fillings)) a
-      filled (entry t f at job by a count here there) = ap (λ (new : List Filling). madeBy n (new ++ x .fillings)) a ∙ more f by
-
-  idled-still : (w : ℕ) → w < workers → Still x (andNow x (withWorker (x .state) w worker0)) n
+  idled-still : (w : ℕ) → w < workers → Still n m (andNow x (withWorker (x .state) w worker0))
   idled-still w h =
       record {
-        gone = record { born = g .born; none = λ v p q. at v p (eqb v w) (sym (ap (λ (k : Worker). k .state) (worker-put (x .state) (s .good) w worker0 h v)) ∙ q) };
-        number = refl;
+        kept = keeps K .idled x s (i .kept) w h;
+        gone =
+            record { born = i .gone .born; none = λ v p q. i .gone .none v p (idle-other (x .state) (s .good) w h v p q .1) };
+        number = i .number;
       }
-    where
-      at : (v : ℕ) (p : Point) (t : Bool) → pick t worker0 (workerAt (x .state) v) .state ≡ UnderWay p → x .tries v .number ≢ n
-      at v p true q = let z : _≡_ {A = ℕ} 0 1 = cc in absurd (omega arith)
-      at v p false q = g .none v p q
 
-  comes-still : (y : Sofar) → Comes x y → Still x y n
-  comes-still y (comes.same q) = subst (λ (y : Sofar). Still x y n) (sym q) (record { gone = g; number = refl })
-  comes-still y (comes.begun w l rec b q) = subst (λ (y : Sofar). Still x y n) (sym q) (begun-still w l rec b)
-  comes-still y (comes.moved w p h e q) = subst (λ (y : Sofar). Still x y n) (sym q) (moved-still w p h e)
-  comes-still y (comes.idled w h q) = subst (λ (y : Sofar). Still x y n) (sym q) (idled-still w h)
-
-pub still-follow :
-    (K : Rules) (x : Sofar) (h : List Call) (n : ℕ) → Standing K x → AllRecords h → Kept x → Gone x n →
-    madeBy n (follow x h .fillings) ≡ madeBy n (x .fillings)
-unfolding follow
-still-follow K x [] n s b o g = refl
-still-follow K x (c ∷ cs) n s b o g =
-    let cut = cut-records c cs b in
-    let y = comes-still K x s o n g (thenOf x c) (comes.comes x c) in
-    still-follow K (thenOf x c) cs n (standing-then K x c s (cut .0)) (cut .1) (comes-keeps K x (thenOf x c) s o (comes.comes x c)) (y .gone) ∙
-    y .number
+pub stills : (K : Rules) (n m : ℕ) → KeptBy K (Still n m)
+stills K n m = record { begun = begun-still K n m; moved = moved-still K n m; idled = idled-still K n m }
 
 -- a worker that isn't idle is one of the eight, and may be dropped
 beyond : (l : List Worker) (w : ℕ) → length l ≤ w → getD l w worker0 ≡ worker0
@@ -144,29 +144,28 @@ drop-accepted e w h (Finished a) z y = simp (lt-leb workers w h, z)
 
 -- its try is over then, and has filled what it had filled
 pub dropped-still :
-    (K : Rules) (x : Sofar) → Standing K x → (w : ℕ) → NotIdle (workerAt (x .state) w .state) →
-    Still x (thenOf x (Drop w)) (x .tries w .number)
+    (K : Rules) (x : Sofar) → Standing K x → Kept x → (w : ℕ) → NotIdle (workerAt (x .state) w .state) →
+    Still (x .tries w .number) (madeBy (x .tries w .number) (x .fillings)) (thenOf x (Drop w))
 unfolding thenOf
-dropped-still K x s w y =
+dropped-still K x s o w y =
     let e = x .state in
+    let n = x .tries w .number in
     let h = seated e (s .good) w y in
     let told = drop-accepted e w h (workerAt e w .state) refl y in
     let seat = one-of w (steps.dropByState (workerAt e w)) told in
     let state : dropOf e w .engine ≡ withWorker e w worker0 =
     ap (λ (o : Outcome). o .engine) (drop-told e w Accepted told) ∙
     ap (λ (k : Worker). withWorker e w k) (dropped-is (workerAt e w) (seat .1)) in
-    subst (λ (d : Engine). Still x (andNow x d) (x .tries w .number)) (sym state)
+    subst (λ (d : Engine). Still n (madeBy n (x .fillings)) (andNow x d)) (sym state)
     (record {
+      kept = keeps K .idled x s o w h;
       gone =
           record {
             born = s .next .ok .begun w y;
-            none = λ v p q. at v p (eqb v w) refl (sym (ap (λ (k : Worker). k .state) (worker-put e (s .good) w worker0 h v)) ∙ q);
+            none =
+                λ v p q m.
+                let other = idle-other e (s .good) w h v p q in
+                other .0 (s .next .ok .ids v w (subst NotIdle (sym (other .1)) tt) y m);
           };
       number = refl;
     })
-  where
-    at :
-        (v : ℕ) (p : Point) (t : Bool) → eqb v w ≡ t → pick t worker0 (workerAt (x .state) v) .state ≡ UnderWay p →
-        x .tries v .number ≢ x .tries w .number
-    at v p true z q = let z : _≡_ {A = ℕ} 0 1 = cc in absurd (omega arith)
-    at v p false z q = λ m. eqb-false v w z (s .next .ok .ids v w (subst NotIdle (sym q) tt) y m)

@@ -1,7 +1,7 @@
 -- What every call keeps of each worker's steps and of what its Look found: worn is told after one step, of a lock that was worn and is.
 use Prim.Native.Nat.{ℕ, suc, _%_, _<_, _≤_}
 use mathlib.Core.Bool.{Bool, true, false}
-use mathlib.Core.List.{List, [], _∷_}
+use mathlib.Core.List.{List}
 use mathlib.Core.Path.{_≡_, refl, sym, ap, _∙_, subst}
 use native.Mathlib.Omega.{arith}
 use borrow.Author.Tests.{eqb-true, eq-eqb, ne-eqb}
@@ -24,16 +24,15 @@ use Rattle.engine.specs.Inner.{Begins}
 use Rattle.engine.specs.State.{freeSheet, workerAt, lockAt, withWorker}
 use Rattle.engine.specs.Step.{placesOf, viewAt, steppedOf}
 use Rattle.engine.specs.declared.Engine.{Engine}
-use Rattle.past.specs.Past.{Call, AllRecords, Past}
+use Rattle.past.specs.Past.{Past}
 use Rattle.helping.specs.Machine.{Rules}
 use Rattle.helping.specs.Ok.{Named, viewOf}
-use Rattle.histories.specs.History.{Sofar, start, newTry, began, foundBy, stepped, andNow, thenOf, follow, sofar}
+use Rattle.histories.specs.History.{Sofar, start, newTry, began, foundBy, stepped, andNow, sofar}
 use Rattle.histories.proofs.map.Map.{sceneOf, taleOf}
 use Rattle.histories.proofs.rules.Rules.{fresh-is}
-use Rattle.histories.proofs.simulation.Comes as comes
-use Rattle.histories.proofs.simulation.Comes.{Comes}
-use Rattle.histories.proofs.simulation.Standing.{Standing, standing-then, standing-start, cut-records}
-use Rattle.histories.proofs.simulation.Workers.{worker-put, worker-begun, worker-stepped}
+use Rattle.histories.proofs.simulation.Follows.{KeptBy, past-keeps}
+use Rattle.histories.proofs.simulation.Pieces.{worker-put, worker-begun, worker-stepped}
+use Rattle.histories.proofs.simulation.Standing.{Standing}
 use Rattle.histories.proofs.worn.Looks as looks
 use Rattle.histories.proofs.worn.Looks.{PastLook, OnWay, Later, LooksTo, look-to, later, worn-is, worn0-worn}
 use Rattle.histories.proofs.worn.Stays.{step-stays}
@@ -85,8 +84,8 @@ stays-looked (Finished RanNo) n f l k s h = h
 stays-looked (Finished NotTaken) n f l k s h = h
 stays-looked (Finished Worn) n f l k s h = (h .0, h .1, s (h .2))
 
-idled-tried : (K : Rules) (x : Sofar) → Standing K x → (w : ℕ) → w < workers → Tried x → Tried (andNow x (withWorker (x .state) w worker0))
-idled-tried K x s w h t v =
+idled-tried : (K : Rules) (x : Sofar) → Standing K x → Tried x → (w : ℕ) → w < workers → Tried (andNow x (withWorker (x .state) w worker0))
+idled-tried K x s t w h v =
     subst
     (λ (k : Worker). Looked (k .state) (x .steps v) (wornOf (x .found v)) (wornOf (lockAt (x .state) (x .tries v .lock))))
     (sym (worker-put (x .state) (s .good) w worker0 h v)) (go (eqb v w))
@@ -99,25 +98,26 @@ idled-tried K x s w h t v =
     go false = t v
 
 begun-tried :
-    (K : Rules) (x : Sofar) → Standing K x → (w l : ℕ) (rec : List ℕ) → Begins (x .state) w l rec → Tried x →
+    (K : Rules) (x : Sofar) → Standing K x → Tried x → (w l : ℕ) (rec : List ℕ) → Begins (x .state) w l rec →
     Tried (began x w l rec (takenOf (x .state) w l rec))
 unfolding begunOf
-begun-tried K x s w l rec b t v =
+begun-tried K x s t w l rec b v =
     subst
     (λ (k : Worker).
-    Looked (k .state) (pick (eqb v w) 0 (x .steps v)) (wornOf (x .found v))
+    Looked (k .state) (pick (eqb v w) 0 (x .steps v)) (wornOf (pick (eqb v w) lock0 (x .found v)))
     (wornOf (lockAt (x .state) (pick (eqb v w) (newTry x l rec) (x .tries v) .lock))))
     (sym (worker-begun (x .state) (s .good) w l rec b v)) (go (eqb v w))
   where
     go :
         (b : Bool) →
-        Looked (pick b (lookingOf l (freeSheet (x .state))) (workerAt (x .state) v) .state) (pick b 0 (x .steps v)) (wornOf (x .found v))
+        Looked (pick b (lookingOf l (freeSheet (x .state))) (workerAt (x .state) v) .state) (pick b 0 (x .steps v))
+        (wornOf (pick b lock0 (x .found v)))
         (wornOf (lockAt (x .state) (pick b (newTry x l rec) (x .tries v) .lock)))
     go true = refl
     go false = t v
 
-module _ (K : Rules) (x : Sofar) (s : Standing K x) (w : ℕ) (h : w < workers) (p : Point)
-    (q : workerAt (x .state) w .state ≡ UnderWay p) (t : Tried x) where
+module _ (K : Rules) (x : Sofar) (s : Standing K x) (t : Tried x) (w : ℕ) (p : Point) (h : w < workers)
+    (q : workerAt (x .state) w .state ≡ UnderWay p) where
   abbrev e : Engine
   e = x .state
 
@@ -131,7 +131,7 @@ module _ (K : Rules) (x : Sofar) (s : Standing K x) (w : ℕ) (h : w < workers) 
   l = x .tries w .lock
 
   still : (k : ℕ) → wornOf (lockAt e k) ≡ true → wornOf (lockAt now k) ≡ true
-  still k z = ap wornOf (step-stays e (s .good) w h p q k (worn-is (lockAt e k) z)) ∙ worn0-worn
+  still k z = ap wornOf (step-stays e (s .good) w p q k (worn-is (lockAt e k) z)) ∙ worn0-worn
 
   -- the lock that the step looks at is that of the try
   lock-is : lockAt e l ≡ v .lock
@@ -201,18 +201,8 @@ module _ (K : Rules) (x : Sofar) (s : Standing K x) (w : ℕ) (h : w < workers) 
           stays-looked (workerAt e u .state) (x .steps u) (wornOf (x .found u)) (wornOf (lockAt e (x .tries u .lock)))
           (wornOf (lockAt now (x .tries u .lock))) (still (x .tries u .lock)) (t u)
 
-comes-tried : (K : Rules) (x y : Sofar) → Standing K x → Tried x → Comes x y → Tried y
-comes-tried K x y s t (comes.same q) = subst Tried (sym q) t
-comes-tried K x y s t (comes.begun w l rec b q) = subst Tried (sym q) (begun-tried K x s w l rec b t)
-comes-tried K x y s t (comes.moved w p h e q) = subst Tried (sym q) (moved-tried K x s w h p e t)
-comes-tried K x y s t (comes.idled w h q) = subst Tried (sym q) (idled-tried K x s w h t)
-
-tried-follow : (K : Rules) (x : Sofar) (cs : List Call) → Standing K x → AllRecords cs → Tried x → Tried (follow x cs)
-unfolding follow
-tried-follow K x [] s b t = t
-tried-follow K x (c ∷ cs) s b t =
-    let cut = cut-records c cs b in
-    tried-follow K (thenOf x c) cs (standing-then K x c s (cut .0)) (cut .1) (comes-tried K x (thenOf x c) s t (comes.comes x c))
+tries : (K : Rules) → KeptBy K Tried
+tries K = record { begun = begun-tried K; moved = moved-tried K; idled = idled-tried K }
 
 tried-start : (rec : List ℕ) → AllBytes rec → Tried (start (setupOf rec .engine))
 tried-start rec b w =
@@ -220,6 +210,4 @@ tried-start rec b w =
     (sym (ap (λ (k : Worker). k .state) (fresh-is rec b .idle w))) tt
 
 pub tried-past : (p : Past) → Tried (sofar p)
-tried-past p =
-    tried-follow _ (start (setupOf (p .setup) .engine)) (p .calls) (standing-start (p .setup) (p .setupBytes)) (p .callsBytes)
-    (tried-start (p .setup) (p .setupBytes))
+tried-past p = past-keeps Tried p (tries _) (tried-start (p .setup) (p .setupBytes))

@@ -1,19 +1,23 @@
--- The workers after an accepted call: one is another, the rest are as they were.
+-- The pieces of the state after an accepted call: one worker is another and the rest are as they were; after a step, so is one lock.
 use Prim.Native.Nat.{ℕ, _<_}
 use mathlib.Core.List.{List}
+use mathlib.Core.Logic.{_≢_}
 use mathlib.Core.Path.{_≡_, ap, _∙_}
 use native.Mathlib.Omega.{arith}
 use Rattle.parts.specs.Numbers.{workers}
+use Rattle.parts.specs.Parts.{lock0}
+use Rattle.parts.specs.declared.LockWord.{LockWord}
 use Rattle.steps.specs.Try.{effectOf}
 use Rattle.steps.specs.Worker.{worker0, lookingOf, beganOf}
 use Rattle.steps.specs.declared.Point.{Point}
 use Rattle.steps.specs.declared.Worker.{Worker}
 use Rattle.engine.specs.Calls.{begunOf, takenOf}
 use Rattle.engine.specs.Inner.{Begins}
-use Rattle.engine.specs.State.{freeSheet, workerAt, withWorker}
+use Rattle.engine.specs.State.{freeSheet, workerAt, lockAt, withWorker}
 use Rattle.engine.specs.Step.{placesOf, viewAt, putAt, steppedOf}
 use Rattle.engine.specs.declared.Engine.{Engine}
 use Rattle.helping.specs.Machine.{put}
+use Rattle.helping.proofs.Put.{put-same, put-other}
 use Rattle.ranges.specs.Good.{Good}
 use Rattle.ranges.proofs.Programs.{looks}
 use Rattle.histories.proofs.map.Put.{set-put}
@@ -30,8 +34,23 @@ worker-begun e g w l rec b v =
     worker-put e g w (beganOf (workerAt e w) l (freeSheet e)) (b .worker) v ∙
     ap (λ (k : Worker). put (workerAt e) w k v) (looks (workerAt e w) l (freeSheet e) (b .idle))
 
-pub worker-stepped :
-    (e : Engine) → Good e → (w : ℕ) → w < workers → (p : Point) (v : ℕ) →
-    workerAt (steppedOf e w p) v ≡ put (workerAt e) w (effectOf p (viewAt e (placesOf e w p)) .worker) v
+-- a step
+module _ (e : Engine) (g : Good e) (w : ℕ) (h : w < workers) (p : Point) where
+  pub worker-stepped :
+      (v : ℕ) → workerAt (steppedOf e w p) v ≡ put (workerAt e) w (effectOf p (viewAt e (placesOf e w p)) .worker) v
+  unfolding putAt placesOf
+  worker-stepped v = worker-put e g w (effectOf p (viewAt e (placesOf e w p)) .worker) h v
+
+  pub worker-here : workerAt (steppedOf e w p) w ≡ effectOf p (viewAt e (placesOf e w p)) .worker
+  worker-here = worker-stepped w ∙ put-same (workerAt e) w _
+
+  pub worker-there : (v : ℕ) → v ≢ w → workerAt (steppedOf e w p) v ≡ workerAt e v
+  worker-there v d = worker-stepped v ∙ put-other (workerAt e) w _ v d
+
+pub lock-stepped :
+    (e : Engine) → Good e → (w : ℕ) (p : Point) (l : ℕ) →
+    lockAt (steppedOf e w p) l ≡ put (lockAt e) (placesOf e w p .lock) (effectOf p (viewAt e (placesOf e w p)) .lock) l
 unfolding putAt placesOf
-worker-stepped e g w h p v = worker-put e g w (effectOf p (viewAt e (placesOf e w p)) .worker) h v
+lock-stepped e g w p l =
+    ap (λ (f : ℕ → LockWord). f l)
+    (set-put (λ (x : LockWord). x) (e .lock) (placesOf e w p .lock) _ lock0 (omega (arith, g .lengths .lock)))
