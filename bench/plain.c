@@ -10,11 +10,12 @@
 #include "chantgarden.h"
 #include <string.h>
 
-enum { WORKERS = 8, LOCKS = 16, WORDS = 64, SHEETS = 32, INSTRUCTIONS = 32, REGISTERS = 4 };
+enum { WORKERS = 8, LOCKS = 16, WORDS = 64, SHEETS = 32, INSTRUCTIONS = 64, REGISTERS = 4 };
+enum { SHORT = 32 }; /* the most instructions of a job record of kind 1; those of kind 4 have more */
 
 #define LAST_TURN 67108864u
 #define FREE 32u         /* the holder of a free lock: no sheet has this number */
-#define EMPTY UINT32_MAX /* the count of an empty log entry: a word's stays below 2 to the 31st */
+#define EMPTY UINT32_MAX /* the count of an empty log entry: a word's stays below 63 × 2 to the 26th */
 
 /* The points of a worker: what its next step does. The first eight are the ops of instructions, of which the first step comes. */
 enum { HALT, SET, LOAD, STORE, CAM, ADD, SUB, SKIP };
@@ -73,10 +74,18 @@ static uint32_t in_use(const struct plain *e) {
   return (uint32_t)bits;
 }
 
-/* Refusals 5 and 6 of a record's first four bytes, or 0. */
-static uint32_t head_fault(const uint8_t *record, size_t length, uint32_t kind) {
-  if (length < 4 || two_bytes(record) != length) return 5;
-  return two_bytes(record + 2) == kind ? 0 : 6;
+/* Refusal 5 of a record's first bytes, or 0. */
+static uint32_t head_fault(const uint8_t *record, size_t length) {
+  return length < 4 || two_bytes(record) != length ? 5 : 0;
+}
+
+/* Refusals 5 and 6 of a job record's form, or 0. */
+static uint32_t form_fault(const uint8_t *record, size_t length) {
+  if (head_fault(record, length)) return 5;
+  uint32_t kind = two_bytes(record + 2);
+  if (kind != 1 && kind != 4) return 6;
+  size_t fewest = kind == 1 ? 1 : SHORT + 1, most = kind == 1 ? SHORT : INSTRUCTIONS;
+  return length % 4 != 0 || length < 4 + 4 * fewest || length > 4 + 4 * most ? 5 : 0;
 }
 
 /* Without locks and words the state is the blank one, and so it stays where the record is refused. */
@@ -86,7 +95,8 @@ chant_reply plain_setup(struct plain *e, const uint8_t *record, size_t length) {
     e->workers[i].now.op = IDLE;
     e->workers[i].uses = 0;
   }
-  uint32_t number = head_fault(record, length, 2);
+  uint32_t number = head_fault(record, length);
+  if (number == 0 && two_bytes(record + 2) != 2) number = 6;
   if (number) return refused(number, 0);
   if (length < 6) return refused(5, 0);
   uint32_t locks = record[4], words = record[5];
@@ -139,9 +149,8 @@ chant_reply plain_begin(struct plain *e, uint32_t worker, uint32_t lock, const u
   struct worker *w = &e->workers[worker];
   if (w->now.op != IDLE) return refused(w->now.op == FINISHED ? 4 : 3, 0);
   if (lock >= e->lock_count) return refused(2, 0);
-  uint32_t number = head_fault(record, length, 1);
+  uint32_t number = form_fault(record, length);
   if (number) return refused(number, 0);
-  if (length % 4 != 0 || length < 8 || length > 4 + 4 * INSTRUCTIONS) return refused(5, 0);
   uint32_t n = (uint32_t)length / 4 - 1;
   chant_reply fault = job_fault(e, lock, record + 4, n);
   if (fault.number) return fault;
@@ -364,7 +373,7 @@ chant_wrote plain_show(const struct plain *e, uint32_t sheet, uint8_t *buffer, s
   if (sheet >= SHEETS || !(in_use(e) >> sheet & 1)) return (chant_wrote){14, 0, 0};
   uint32_t bytes = 4 + 4u * e->lengths[sheet];
   if (length < bytes) return (chant_wrote){13, 0, 0};
-  put_four(buffer, bytes | 1u << 16);
+  put_four(buffer, bytes | (e->lengths[sheet] > SHORT ? 4u : 1u) << 16);
   memcpy(buffer + 4, e->program + sheet * INSTRUCTIONS, bytes - 4);
   return (chant_wrote){0, 0, bytes};
 }

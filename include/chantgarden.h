@@ -17,7 +17,7 @@
  *    3 worker under way                     11 worker idle
  *    4 answer not collected                 12 L, W, a guard or a turn outside its range; park: blank state
  *    5 record length wrong                  13 lent buffer shorter than the record
- *    6 kind is not the one this call takes  14 sheet above 31 or free
+ *    6 kind is none that this call takes    14 sheet above 31 or free
  *    7 instruction badly formed, or the     15 a lock is held
  *      last is no halt                      16 word not below W
  *    8 a load, store or cam names a word    17 a record that makes no call: call above 3
@@ -37,12 +37,12 @@
 #endif
 
 /* The numbers of a state. All 0 is the blank state: no locks, no words, idle workers, free sheets. */
-#define CHANT_STATE_NUMBERS 6724
+#define CHANT_STATE_NUMBERS 12868
 
 /* A buffer of so many bytes is long enough for every job record, for every setup record, for every call record. */
-#define CHANT_JOB_BYTES 132
+#define CHANT_JOB_BYTES 260
 #define CHANT_SETUP_BYTES 390
-#define CHANT_CALL_BYTES 136
+#define CHANT_CALL_BYTES 264
 
 /* The call that a call record makes. */
 #define CHANT_BEGIN 0
@@ -70,13 +70,13 @@ typedef struct { uint32_t number, place, length; } chant_wrote;
  * Refused 5, 6, 12. The place of 12 is the first byte of what is outside its range. */
 CHANT_READ chant_reply chant_setup(uint32_t *state, size_t numbers, const uint8_t *record, size_t length);
 
-/* Gives an idle worker a job record (kind 1) to try under a lock: takes the free sheet with the lowest number, copies the job,
- * empties the log, clears the mark. Refused 1, 3, 4, 2, 5, 6, 7, 8, 9, 10. The place of 7 and 8 is the instruction's, from 0; the
- * lowest faulty instruction is told. */
+/* Gives an idle worker a job record to try under a lock: takes the free sheet with the lowest number, copies the job, empties the
+ * log, clears the mark. A record of kind 1 has 1 to 32 instructions, one of kind 4 33 to 64; 5 where it has another number.
+ * Refused 1, 3, 4, 2, 5, 6, 7, 8, 9, 10. The place of 7 and 8 is the instruction's, from 0; the lowest faulty instruction is told. */
 CHANT_READ chant_reply chant_begin(uint32_t *state, size_t numbers, uint32_t worker, uint32_t lock, const uint8_t *record,
                                    size_t length);
 
-/* Does one step of the worker's try. A try ends within 100 steps; 4 then says that its answer waits to be collected.
+/* Does one step of the worker's try. A try ends within 196 steps; 4 then says that its answer waits to be collected.
  * Refused 1, 11, 4. */
 CHANT_READ chant_reply chant_step(uint32_t *state, size_t numbers, uint32_t worker);
 
@@ -88,8 +88,8 @@ CHANT_READ chant_reply chant_step(uint32_t *state, size_t numbers, uint32_t work
  * it carried. Refused 1, 11, 3. */
 CHANT_READ chant_collected chant_collect(uint32_t *state, size_t numbers, uint32_t worker);
 
-/* Makes a worker that isn't idle idle, at any point. A held lock stays held: any idle worker that begins there and is stepped runs
- * the job to its end within 97 steps. What collect would have told is lost. Refused 1, 11. */
+/* Makes a worker that isn't idle idle, at any point. A held lock stays held: any idle worker that begins there and is stepped
+ * alone runs the job to its end within 193 steps. What collect would have told is lost. Refused 1, 11. */
 CHANT_READ chant_reply chant_drop(uint32_t *state, size_t numbers, uint32_t worker);
 
 /* Tells a word's value, its count of changes since setup, and the lock that guards it.
@@ -100,8 +100,8 @@ CHANT_READ chant_word chant_read_word(const uint32_t *state, size_t numbers, uin
  * Refused 2. */
 CHANT_READ chant_lock chant_read_lock(const uint32_t *state, size_t numbers, uint32_t lock);
 
-/* Writes the job record of a sheet in use into the first bytes of the buffer; length tells how many. The bytes after them don't
- * change. Refused 14, 13. */
+/* Writes the job record of a sheet in use, of the kind that its number of instructions asks for, into the first bytes of the buffer;
+ * length tells how many. The bytes after them don't change. Refused 14, 13. */
 CHANT_READ chant_wrote chant_show(const uint32_t *state, size_t numbers, uint32_t sheet, uint8_t *buffer, size_t length);
 
 /* Writes the setup record of the present values and turns into the first bytes of the buffer; length tells how many. The bytes

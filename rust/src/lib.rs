@@ -154,11 +154,11 @@ pub struct Engine {
 
 impl Engine {
     /// The most bytes of a job record.
-    pub const JOB_BYTES: usize = 132;
+    pub const JOB_BYTES: usize = 260;
     /// The most bytes of a setup record.
     pub const SETUP_BYTES: usize = 390;
     /// The most bytes of a call record.
-    pub const CALL_BYTES: usize = 136;
+    pub const CALL_BYTES: usize = 264;
 
     /// The blank state: no locks, no words, idle workers, free sheets.
     pub fn blank() -> Engine {
@@ -177,7 +177,7 @@ impl Engine {
     }
 
     /// One step of a worker's try. It is refused with number 4 once the try
-    /// has an answer to collect, which is so after at most 100 steps.
+    /// has an answer to collect, which is so after at most 196 steps.
     pub fn step(&mut self, worker: u32) -> Result<(), Refusal> {
         accepted(lent::step(&mut self.numbers, worker))
     }

@@ -227,7 +227,7 @@ fn worn() {
     }
     for worker in 0..8 {
         assert_eq!(engine.begin(worker, 0, &B), refused(9, 0));
-        assert_eq!(engine.begin(worker, 1, &halts(1)), Ok(()));
+        assert_eq!(engine.begin(worker, 1, &halts(1, 1)), Ok(()));
     }
 }
 
@@ -299,6 +299,54 @@ fn refusals_of_records() {
     assert_eq!(engine.read_word(0), refused(16, 0));
     // Refusal 10 is out of reach: at a begin at most 7 + 7 + 16 of the 32
     // sheets are in use.
+}
+
+/// Kind 1 carries 1 to 32 instructions, kind 4 33 to 64; show gives the record
+/// back that begin took.
+#[test]
+fn kinds_of_job_records() {
+    for (kind, least, most) in [(1, 1, 32), (4, 33, 64)] {
+        for instructions in [0, 1, 32, 33, 64, 65] {
+            let (mut engine, job) = (engine(), halts(kind, instructions));
+            let mut buffer = [0xA5; Engine::JOB_BYTES];
+            if (least..=most).contains(&instructions) {
+                assert_eq!(engine.begin(0, 0, &job), Ok(()));
+                assert_eq!(engine.show(0, &mut buffer), Ok(job.len()));
+                assert_eq!(buffer[..job.len()], job);
+            } else {
+                assert_eq!(engine.begin(0, 0, &job), refused(5, 0));
+            }
+        }
+    }
+    for kind in [0, 2, 3, 5, 255] {
+        assert_eq!(engine().begin(0, 0, &halts(kind, 33)), refused(6, 0));
+    }
+    let mut longer = halts(4, 33);
+    longer[0] += 4;
+    assert_eq!(engine().begin(0, 0, &longer), refused(5, 0));
+}
+
+/// The longest run, of 63 stores: 196 steps alone; helped from its first step,
+/// 193.
+#[test]
+fn the_longest_tries() {
+    let mut job = halts(4, 64);
+    job[4..]
+        .chunks_exact_mut(4)
+        .take(63)
+        .for_each(|code| code[0] = 3);
+    let mut engine = engine();
+    assert_eq!(engine.begin(0, 0, &job), Ok(()));
+    assert_eq!(finished(&mut engine, 0), (Answer::RanNo, 196, 63));
+    assert_eq!(engine.read_word(0), word(0, 63));
+    assert_eq!(engine.begin(0, 0, &job), Ok(()));
+    for _ in 0..98 {
+        assert_eq!(engine.step(0), Ok(()));
+    }
+    assert_eq!(engine.drop_worker(0), Ok(()));
+    assert_eq!(engine.begin(1, 0, &A), Ok(()));
+    assert_eq!(finished(&mut engine, 1), (Answer::NotTaken, 193, 32));
+    assert_eq!(engine.read_word(0), word(0, 126));
 }
 
 #[test]
@@ -412,8 +460,8 @@ fn words_of_refusals() {
 
 /// The record of a call, byte by byte; the program is that of a begin.
 fn record(call: u8, worker: u8, lock: u8, program: &[u8]) -> Vec<u8> {
-    let length = 8 + program.len() as u8;
-    [&[length, 0, 3, 0, call, worker, lock, 0], program].concat()
+    let [low, high] = (8 + program.len() as u16).to_le_bytes();
+    [&[low, high, 3, 0, call, worker, lock, 0], program].concat()
 }
 
 /// What the writer makes of a call in a buffer of so many bytes, which all
@@ -445,10 +493,10 @@ fn writes_none(call: u32, job: &[u8], room: usize, number: u32) {
 }
 
 /// A job record of so many instructions, all of which halt.
-fn halts(instructions: usize) -> Vec<u8> {
-    let length = 4 + 4 * instructions as u8;
-    let mut job = vec![0; length.into()];
-    (job[0], job[2]) = (length, 1);
+fn halts(kind: u8, instructions: usize) -> Vec<u8> {
+    let mut job = vec![0; 4 + 4 * instructions];
+    let [low, high] = (job.len() as u16).to_le_bytes();
+    (job[0], job[1], job[2]) = (low, high, kind);
     job
 }
 
@@ -467,9 +515,14 @@ fn records_of_calls() {
         writes(lent::BEGIN, [1, far], &A, &record(0, 1, 255, &A[4..]));
         writes(lent::STEP, [far, 0], &[], &record(1, 255, 0, &[]));
     }
-    let most = halts(32);
-    assert_eq!(record(0, 0, 0, &most[4..]).len(), Engine::CALL_BYTES);
-    writes(lent::BEGIN, [0, 0], &most, &record(0, 0, 0, &most[4..]));
+    // The record of a begin does not say the job record's kind.
+    for job in [halts(1, 1), halts(1, 32), halts(4, 33), halts(4, 64)] {
+        writes(lent::BEGIN, [0, 0], &job, &record(0, 0, 0, &job[4..]));
+    }
+    assert_eq!(
+        record(0, 0, 0, &halts(4, 64)[4..]).len(),
+        Engine::CALL_BYTES
+    );
 }
 
 #[test]
@@ -479,13 +532,19 @@ fn refusals_of_records_of_calls() {
         writes_none(call, &A[..23], 0, 17);
     }
     for room in [0, Engine::CALL_BYTES] {
-        for job in [&[][..], &A[..23], &halts(0), &halts(33), &[5, 0, 1, 0, 0]] {
+        for job in [&[][..], &A[..23], &[5, 0, 1, 0, 0]] {
             writes_none(lent::BEGIN, job, room, 5);
         }
+        for (kind, counts) in [(1, [0, 33, 64, 65]), (4, [0, 1, 32, 65])] {
+            for instructions in counts {
+                writes_none(lent::BEGIN, &halts(kind, instructions), room, 5);
+            }
+        }
         writes_none(lent::BEGIN, &S, room, 6);
+        writes_none(lent::BEGIN, &halts(5, 33), room, 6);
     }
     writes_none(lent::BEGIN, &A, 27, 13);
-    writes_none(lent::BEGIN, &halts(32), Engine::CALL_BYTES - 1, 13);
+    writes_none(lent::BEGIN, &halts(4, 64), Engine::CALL_BYTES - 1, 13);
     for call in [lent::STEP, lent::COLLECT, lent::DROP] {
         writes_none(call, &A, 7, 13);
         writes_none(call, &[], 0, 13);

@@ -1,4 +1,4 @@
-//! The checker of demand 3 and of requests 02 and 03. It makes the calls on
+//! The checker of demand 3 and of requests 02 to 04. It makes the calls on
 //! an engine, keeps for each lock the list of tries that won it, and after
 //! every call holds the lock's words and all answers told so far against that
 //! list. It also keeps who filled each log entry: one that is empty before a
@@ -8,6 +8,7 @@
 use crate::alone;
 use crate::engine::{Answer, Collected, Engine, Instruction, LockWord, Refusal, Standing, Wrong};
 use crate::generate::{Generator, Kind, SHORTEST_JOB};
+use crate::job;
 use crate::script::{perform, Call, Outcome, Told};
 
 /// A try, from its begin on; its number is its place among all begins.
@@ -72,7 +73,7 @@ struct Taken {
     /// The number of the try whose begin took it last.
     by: Option<usize>,
     /// Which entries of its log were filled after the last call, as bits.
-    filled: u32,
+    filled: u64,
 }
 
 const NOT_TAKEN: Taken = Taken {
@@ -206,7 +207,7 @@ impl Checker {
     }
 
     /// An accepted begin, and the sheet that was the lowest free one: the
-    /// lock is not worn.
+    /// lock is not worn, and show gives the job record back.
     fn note_begin(
         &mut self,
         worker: u32,
@@ -214,11 +215,17 @@ impl Checker {
         record: &[u8],
         free: Option<usize>,
     ) -> Result<(), Broken> {
-        let four = |bytes: &[u8]| [bytes[0], bytes[1], bytes[2], bytes[3]];
         let number = self.tries.len();
+        let Ok(program) = job::program(record, job::NOW) else {
+            return Err(format!("try {number} begins without a job record"));
+        };
         let Some(sheet) = free else {
             return Err(format!("try {number} begins without a free sheet"));
         };
+        let mut shown = vec![0; record.len()];
+        if self.engine.show(sheet as u32, &mut shown) != Ok(record.len()) || shown != record {
+            return Err(format!("try {number} has another job on sheet {sheet}"));
+        }
         let lock = lock as usize;
         if self.kept[lock].seen == LockWord::WORN {
             return Err(format!("try {number} begins on a worn lock"));
@@ -227,7 +234,7 @@ impl Checker {
         self.taken[sheet].by = Some(number);
         self.tries.push(Try {
             lock,
-            program: record[4..].chunks(4).map(four).collect(),
+            program,
             steps: 0,
             looked: None,
             won: None,
@@ -332,8 +339,8 @@ impl Checker {
             return Err(format!("lock {lock} can't be read"));
         };
         let before = std::mem::replace(&mut self.kept[lock].seen, now);
-        let change = format!("lock {lock} goes from {before:?} to {now:?}");
         if now != before {
+            let change = format!("lock {lock} goes from {before:?} to {now:?}");
             let Some(number) = stepped.filter(|&number| self.tries[number].lock == lock) else {
                 return Err(format!("{change} by no step of a try on it"));
             };
@@ -370,12 +377,14 @@ impl Checker {
 
     /// A free lock's words are those after all jobs of its list; a held
     /// lock's those after all but the last and some first part of the last.
+    /// Each job has changed a word as often as it can at most.
     fn check_words(&self, lock: usize) -> Result<(), Broken> {
         let kept = &self.kept[lock];
+        let changes = Engine::MOST_CHANGES * kept.list.len() as u32;
         let mut now = Vec::with_capacity(kept.guarded.len());
         for &word in &kept.guarded {
             match self.engine.read_word(word as u32) {
-                Ok(read) if read.guard == lock && read.count < 1 << 31 => now.push(read.value),
+                Ok(read) if read.guard == lock && read.count <= changes => now.push(read.value),
                 other => return Err(format!("word {word} reads {other:?}")),
             }
         }

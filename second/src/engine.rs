@@ -1,8 +1,9 @@
 //! The engine in place: workers, locks, words and sheets, and the calls on
-//! them, straight from document 01, with request 02's count of filled entries
-//! and request 03's answer, worn. The numbers in comments such as "step 4" are
-//! those of "One try, step by step".
+//! them, straight from document 01, with request 02's count of filled entries,
+//! request 03's answer, worn, and request 04's longer jobs. The numbers in
+//! comments such as "step 4" are those of "One try, step by step".
 
+use crate::job;
 use std::ops::Range;
 
 /// One instruction of a job: op, a, b, c.
@@ -221,9 +222,9 @@ pub enum Standing {
     Finished,
 }
 
-/// The shortcuts that document 01 shuts out, and slips in request 02's count
-/// and request 03's answer. The tests make the engine wrong on purpose with
-/// one of them, to see that it is caught.
+/// The shortcuts that document 01 shuts out, and slips in request 02's count,
+/// request 03's answer and request 04's logs. The tests make the engine wrong
+/// on purpose with one of them, to see that it is caught.
 #[derive(Clone, Copy, PartialEq, Eq, Debug)]
 pub enum Wrong {
     /// No shortcut: the engine of document 01.
@@ -250,7 +251,12 @@ pub enum Wrong {
     NotTakenOfWorn,
     /// Step 4 that finds nothing to run tells worn of a worn lock.
     WornAtStepFour,
+    /// Each log starts in the middle of the one before it.
+    LogsOverlap,
 }
+
+/// Counts of changes stay below 2 to the 32nd: each turn is one job's.
+const _: () = assert!(Engine::MOST_CHANGES as u64 * (Engine::LAST_TURN as u64) < 1 << 32);
 
 /// The whole state.
 #[derive(Clone, PartialEq, Eq, Debug)]
@@ -268,12 +274,19 @@ impl Engine {
     pub const LOCKS: usize = 16;
     pub const WORDS: usize = 64;
     pub const SHEETS: usize = 32;
-    pub const INSTRUCTIONS: usize = 32;
+    /// The most instructions of a job, and the entries of a sheet's log.
+    pub const INSTRUCTIONS: usize = 64;
     pub const REGISTERS: usize = 4;
     pub const LAST_TURN: u32 = 67_108_864;
-    /// A try's most steps, and those of one that helps from step 1.
-    pub const LONGEST_TRY: u32 = 100;
-    pub const LONGEST_HELP: u32 = 97;
+    /// The most changes of a word that one job makes: all but its halt.
+    pub const MOST_CHANGES: u32 = Engine::INSTRUCTIONS as u32 - 1;
+    /// The most steps of a run: read, commit and swap for each instruction
+    /// but the halt.
+    pub const LONGEST_RUN: u32 = 3 * Engine::MOST_CHANGES + 1;
+    /// A try's most steps, and those of one that helps from step 1: what
+    /// comes before the run, the run, mark and release.
+    pub const LONGEST_TRY: u32 = 4 + Engine::LONGEST_RUN + 2;
+    pub const LONGEST_HELP: u32 = 1 + Engine::LONGEST_RUN + 2;
 
     /// The blank state: no locks, no words, idle workers, free sheets.
     pub fn blank() -> Engine {
@@ -310,7 +323,7 @@ impl Engine {
             State::Idle => {}
         }
         let lock = self.lock_index(lock)?;
-        let program = job_instructions(record)?;
+        let program = job::program(record, job::NOW)?;
         self.check_job(lock, &program)?;
         if self.locks[lock] == LockWord::WORN {
             return refused(9);
@@ -323,7 +336,8 @@ impl Engine {
         *sheet = FREE_SHEET;
         sheet.program[..program.len()].copy_from_slice(&program);
         sheet.length = program.len();
-        self.entries[log_of(own)].fill(None);
+        let log = self.log_of(own);
+        self.entries[log].fill(None);
         let state = State::UnderWay(Try {
             lock,
             own,
@@ -400,10 +414,8 @@ impl Engine {
             return refused(14);
         }
         let sheet = &self.sheets[index];
-        let mut record = header(4 + 4 * sheet.length, 1);
-        for instruction in &sheet.program[..sheet.length] {
-            record.extend(instruction);
-        }
+        let program = sheet.program[..sheet.length].concat();
+        let record = job::record(&program).expect("begin took it");
         write(&record, buffer)
     }
 
@@ -435,9 +447,19 @@ impl Engine {
 
     /// Which entries of a sheet's log are filled, a bit for each from the
     /// lowest on; for the checker only.
-    pub fn filled(&self, sheet: usize) -> u32 {
-        let log = self.entries[log_of(sheet)].iter().rev();
-        log.fold(0, |bits, entry| 2 * bits + u32::from(entry.is_some()))
+    pub fn filled(&self, sheet: usize) -> u64 {
+        let log = self.entries[self.log_of(sheet)].iter().rev();
+        log.fold(0, |bits, entry| 2 * bits + u64::from(entry.is_some()))
+    }
+
+    /// Where a sheet's log stands among the entries.
+    fn log_of(&self, sheet: usize) -> Range<usize> {
+        let apart = match self.wrong {
+            Wrong::LogsOverlap => Engine::INSTRUCTIONS / 2,
+            _ => Engine::INSTRUCTIONS,
+        };
+        let first = sheet * apart;
+        first..first + Engine::INSTRUCTIONS
     }
 
     fn lock_index(&self, lock: u32) -> Result<usize, Refusal> {
@@ -629,7 +651,8 @@ impl Engine {
     /// entry holds, and the log place rises by one. Also says whether this
     /// commit filled the entry.
     fn commit(&mut self, run: &mut Run, read: Entry) -> (Entry, bool) {
-        let entry = &mut self.entries[log_of(run.sheet)][run.place];
+        let log = self.log_of(run.sheet);
+        let entry = &mut self.entries[log][run.place];
         run.place += 1;
         let filled = entry.is_none() || self.wrong == Wrong::EveryCommitCounts;
         let held = *entry.get_or_insert(read);
@@ -704,12 +727,6 @@ fn finish(attempt: Try, end: End) -> State {
     })
 }
 
-/// Where a sheet's log stands among the entries.
-fn log_of(sheet: usize) -> Range<usize> {
-    let first = sheet * Engine::INSTRUCTIONS;
-    first..first + Engine::INSTRUCTIONS
-}
-
 fn worker_index(worker: u32) -> Result<usize, Refusal> {
     if (worker as usize) < Engine::WORKERS {
         Ok(worker as usize)
@@ -719,9 +736,8 @@ fn worker_index(worker: u32) -> Result<usize, Refusal> {
 }
 
 /// The first four bytes of a record.
-pub(crate) fn header(length: usize, kind: u8) -> Vec<u8> {
-    let [low, high] = (length as u16).to_le_bytes();
-    vec![low, high, kind, 0]
+pub(crate) fn header(length: usize, kind: u16) -> Vec<u8> {
+    [(length as u16).to_le_bytes(), kind.to_le_bytes()].concat()
 }
 
 /// Writes a record into the first bytes of a lent buffer.
@@ -733,32 +749,23 @@ fn write(record: &[u8], buffer: &mut [u8]) -> Result<usize, Refusal> {
     Ok(record.len())
 }
 
-/// Checks a record's length field, then its kind.
-pub(crate) fn check_header(record: &[u8], kind: u16) -> Result<(), Refusal> {
-    if record.len() < 4 || usize::from(u16::from_le_bytes([record[0], record[1]])) != record.len() {
+/// Checks a record's length field; gives its kind.
+pub(crate) fn kind_of(record: &[u8]) -> Result<u16, Refusal> {
+    let &[low, high, kind_low, kind_high, ..] = record else {
+        return refused(5);
+    };
+    if usize::from(u16::from_le_bytes([low, high])) != record.len() {
         return refused(5);
     }
-    if u16::from_le_bytes([record[2], record[3]]) != kind {
+    Ok(u16::from_le_bytes([kind_low, kind_high]))
+}
+
+/// Checks a record's length field, then its kind.
+pub(crate) fn check_header(record: &[u8], kind: u16) -> Result<(), Refusal> {
+    if kind_of(record)? != kind {
         return refused(6);
     }
     Ok(())
-}
-
-/// The instructions of a job record, its length being right.
-pub(crate) fn job_instructions(record: &[u8]) -> Result<Vec<Instruction>, Refusal> {
-    check_header(record, 1)?;
-    let body = &record[4..];
-    if !whole_program(body) {
-        return refused(5);
-    }
-    let four = |bytes: &[u8]| [bytes[0], bytes[1], bytes[2], bytes[3]];
-    Ok(body.chunks(4).map(four).collect())
-}
-
-/// Whether these bytes are as long as the instructions of a job, 1 to 32.
-pub(crate) fn whole_program(bytes: &[u8]) -> bool {
-    let instructions = bytes.len() / 4;
-    bytes.len() == 4 * instructions && (1..=Engine::INSTRUCTIONS).contains(&instructions)
 }
 
 /// Whether the instruction at this place of a job of n may stand there.

@@ -1,9 +1,8 @@
 //! Call files (request 01): one setup record, then the records of the calls
 //! that a unit made. The calls are made again, with a line for each.
 
-use crate::engine::{
-    check_header, header, job_instructions, refused, whole_program, Engine, Refusal,
-};
+use crate::engine::{check_header, header, refused, Engine, Refusal};
+use crate::job;
 use crate::script::{perform, Call, Outcome, Told};
 
 /// The longest file, in bytes.
@@ -150,10 +149,11 @@ fn read_call(record: &[u8]) -> Result<Call, Refusal> {
     };
     let worker = u32::from(worker);
     match (call, lock, program) {
-        (0, _, program) if whole_program(program) => {
+        (0, _, program) => {
             let lock = u32::from(lock);
-            let mut record = header(4 + program.len(), 1);
-            record.extend(program);
+            let Some(record) = job::record(program) else {
+                return refused(17);
+            };
             Ok(Call::Begin {
                 worker,
                 lock,
@@ -178,7 +178,7 @@ pub fn call_record(call: &Call) -> Option<Vec<u8>> {
             lock,
             record,
         } => {
-            job_instructions(record).ok()?;
+            job::program(record, job::NOW).ok()?;
             (0, *worker, *lock, &record[4..])
         }
         Call::Step { worker, .. } => (1, *worker, 0, no_program),

@@ -1,8 +1,10 @@
 //! Random histories: many workers contending for few locks, drops anywhere,
-//! helpers in the middle, jobs of every length, every refusal that calls can
-//! reach, damaged records and numbers far out of range.
+//! helpers in the middle, jobs of every length, the longest runs among them,
+//! every refusal that calls can reach, damaged records and numbers far out of
+//! range.
 
-use crate::engine::{Engine, LockWord, Standing};
+use crate::engine::{Engine, Instruction, LockWord, Standing};
+use crate::job;
 use crate::script::{self, Call, LONGEST_BYTES, LONGEST_SCRIPT};
 use std::collections::VecDeque;
 
@@ -61,6 +63,8 @@ struct Style {
     locks: u32,
     words: u32,
     longest_job: u32,
+    /// Most jobs take the longest runs, and go far in them.
+    long_runs: bool,
     /// Turns start near the last one, and begun tries overtake others.
     late_turns: bool,
     /// One call in so many is an odd one; 0 for none.
@@ -73,33 +77,59 @@ struct Style {
 
 impl Style {
     fn draw(random: &mut Random, kind: Kind) -> Style {
-        if kind == Kind::Narrow {
-            return Style {
-                workers: 2 + random.below(3),
-                locks: 1,
-                words: 1 + random.below(2),
-                longest_job: 2 + random.below(4),
-                late_turns: random.one_in(6),
-                odd: 0,
-                drops: random.pick(&[20, 60, 1000]),
-                readings: 1000,
-            };
+        match kind {
+            Kind::Narrow => Style::narrow(random),
+            Kind::Wide if random.one_in(6) => Style::long(random),
+            Kind::Wide => Style::wide(random),
         }
+    }
+
+    fn narrow(random: &mut Random) -> Style {
+        Style {
+            workers: 2 + random.below(3),
+            locks: 1,
+            words: 1 + random.below(2),
+            longest_job: 2 + random.below(4),
+            long_runs: false,
+            late_turns: random.one_in(6),
+            odd: 0,
+            drops: random.pick(&[20, 60, 1000]),
+            readings: 1000,
+        }
+    }
+
+    fn wide(random: &mut Random) -> Style {
         let locks = random.pick(&[1, 1, 1, 2, 2, 3, 5, 16]);
         let few = 1 + random.below(4);
-        let any = 1 + random.below(64);
+        let any = 1 + random.below(Engine::WORDS as u32);
         Style {
             workers: random.pick(&[2, 3, 3, 4, 5, 8]),
             locks,
             words: random.pick(&[locks, few, 2 * locks, any]),
-            longest_job: random.pick(&[4, 6, 10, 32]),
+            longest_job: random.pick(&[4, 6, 10, MOST]),
+            long_runs: false,
             late_turns: random.one_in(6),
             odd: random.pick(&[6, 12, 30]),
             drops: random.pick(&[8, 25, 60]),
             readings: random.pick(&[3, 4, 6]),
         }
     }
+
+    /// Few workers at one lock or two, so that the long runs are helped.
+    fn long(random: &mut Random) -> Style {
+        Style {
+            workers: 2 + random.below(3),
+            locks: random.pick(&[1, 1, 1, 2]),
+            words: 2 + random.below(4),
+            longest_job: MOST,
+            long_runs: true,
+            ..Style::wide(random)
+        }
+    }
 }
+
+/// The most instructions of a job.
+const MOST: u32 = Engine::INSTRUCTIONS as u32;
 
 /// Small values, so that equal ones meet.
 const VALUES: [u8; 5] = [0, 1, 5, 6, 7];
@@ -182,15 +212,18 @@ impl Generator {
         }
     }
 
-    /// How many steps in one call: mostly one, sometimes a whole try.
+    /// How many steps in one call: mostly one, sometimes a whole try. Long
+    /// runs often get as far as some place in their middle.
     fn times(&mut self) -> u32 {
+        let (help, most) = (Engine::LONGEST_HELP, Engine::LONGEST_TRY);
         match self.random.below(16) {
+            0..=5 if self.style.long_runs => self.random.below(most),
             0..=7 => 1,
             8..=10 => 1 + self.random.below(5),
             11..=12 => self.random.below(13),
             13 => self.random.below(40),
-            14 => 100,
-            _ => self.random.pick(&[0, 14, 97, 101, 1000, u32::MAX]),
+            14 => most,
+            _ => self.random.pick(&[0, 14, help, most + 1, 1000, u32::MAX]),
         }
     }
 
@@ -203,6 +236,8 @@ impl Generator {
         }
         if self.style.late_turns && !worn && self.random.one_in(4) {
             self.overtake(engine, worker, lock);
+        } else if self.style.long_runs && self.random.one_in(4) {
+            self.lose_grab(engine, worker, lock);
         }
         self.begin(engine, worker, lock)
     }
@@ -227,6 +262,23 @@ impl Generator {
         }
         let times = Engine::LONGEST_TRY;
         self.waiting.push_back(Call::Step { worker, times });
+    }
+
+    /// After this worker's begin another idle one begins too and looks; it
+    /// loses its grab, since this one goes on to some place in its run, and
+    /// helps from step 3.
+    fn lose_grab(&mut self, engine: &Engine, worker: u32, lock: u32) {
+        let mut others = (0..self.style.workers).filter(|&other| other != worker);
+        let idle = |other: &u32| engine.standing(*other) == Standing::Idle;
+        let Some(other) = others.find(idle) else {
+            return;
+        };
+        let begin = self.begin(engine, other, lock);
+        let far = 2 + self.random.below(Engine::LONGEST_RUN);
+        let steps = [(other, 1), (worker, far), (other, Engine::LONGEST_TRY)];
+        let steps = steps.map(|(worker, times)| Call::Step { worker, times });
+        self.waiting.push_back(begin);
+        self.waiting.extend(steps);
     }
 
     /// A lock, the first one more often.
@@ -424,22 +476,53 @@ impl Generator {
             })
             .map(|word| word as u8)
             .collect();
+        let long = self.style.long_runs && !guarded.is_empty() && !self.random.one_in(4);
+        let mut program = match long {
+            true => self.long_run(&guarded),
+            false => self.any_run(&guarded),
+        };
+        program.push([0, self.random.below(2) as u8, 0, 0]);
+        job::record(&program.concat()).expect("it is no longer than a job")
+    }
+
+    /// Any well formed instructions up to the last halt. Where jobs reach the
+    /// most instructions, some stand around those of another kind of record.
+    fn any_run(&mut self, guarded: &[u8]) -> Vec<Instruction> {
         let longest = self.style.longest_job;
         let length = match self.random.below(8) {
             0 => longest,
-            1 if longest == 32 => 31,
+            1 if longest == MOST => self.random.pick(&[31, 32, 33, 63]),
             _ => 1 + self.random.below(longest),
         };
-        let mut record = vec![4 + 4 * length as u8, 0, 1, 0];
-        for place in 0..length - 1 {
-            record.extend(self.instruction(place, length, &guarded));
+        let places = 0..length - 1;
+        let instructions = places.map(|place| self.instruction(place, length, guarded));
+        instructions.collect()
+    }
+
+    /// As many stores, and cams that match, as stand before the last halt: of
+    /// three steps each. All registers are 0 then; at times some are set
+    /// first, which makes the run a little shorter and the values differ.
+    fn long_run(&mut self, guarded: &[u8]) -> Vec<Instruction> {
+        let sets = self.random.pick(&[0, 0, 0, 1, 3]);
+        let values = (0..sets).map(|register| [1, register, self.random.pick(&VALUES), 0]);
+        let mut program: Vec<Instruction> = values.collect();
+        // A word, and the register that it equals by now.
+        let mut known = None;
+        while program.len() < Engine::INSTRUCTIONS - 1 {
+            let register = self.random.below(4) as u8;
+            let any = self.random.pick(guarded);
+            let (instruction, word) = match known {
+                Some((word, equal)) if self.random.one_in(2) => ([4, equal, register, word], word),
+                _ => ([3, register, any, 0], any),
+            };
+            program.push(instruction);
+            known = Some((word, register));
         }
-        record.extend([0, self.random.below(2) as u8, 0, 0]);
-        record
+        program
     }
 
     /// A well formed instruction for this place of a job of this length.
-    fn instruction(&mut self, place: u32, length: u32, guarded: &[u8]) -> [u8; 4] {
+    fn instruction(&mut self, place: u32, length: u32, guarded: &[u8]) -> Instruction {
         let a = self.random.below(4) as u8;
         let b = self.random.below(4) as u8;
         let ops: &[u8] = if guarded.is_empty() {
@@ -469,45 +552,62 @@ impl Generator {
 
     /// Makes a job record wrong, or perhaps only another one.
     fn damage_job(&mut self, record: &mut Vec<u8>) {
-        let length = record.len() as u32;
-        let places = (length - 4) / 4;
-        let at = 4 + 4 * self.random.below(places) as usize;
-        match self.random.below(14) {
+        match self.random.below(15) {
             0..=2 => self.damage_record(record),
-            3 => record[at] = self.random.byte(),
-            4 => record[at] = self.random.pick(&[0, 1, 2, 3, 4, 5, 6, 7, 8]),
-            5 => record[at + 1] = self.random.pick(&[2, 3, 4, 255]),
-            6 => record[at + 2] = self.random.pick(&[1, 4, 64, 255]),
-            7 => record[at + 3] = self.random.pick(&[1, 2, 32, 64, 255]),
-            8 => {
+            3 | 4 => self.edge_job(record),
+            5 => {
+                let length = record.len() as u32;
                 for _ in 0..2 + self.random.below(4) {
                     let byte = 4 + self.random.below(length - 4) as usize;
                     record[byte] = self.random.pick(&[0, 1, 2, 3, 4, 7, 8, 200]);
                 }
             }
-            9 => {
+            6 => {
                 let last = record.len() - 4;
                 record[last] = self.random.pick(&[1, 2, 3, 4, 5, 6, 7, 9]);
             }
-            10 => {
-                let over = self.random.pick(&[0, 1, 30, 31, places as u8, 255]);
-                record[at..at + 4].copy_from_slice(&[7, 0, 0, over]);
+            _ => self.damage_instruction(record),
+        }
+    }
+
+    /// Makes one instruction wrong, or perhaps only another one.
+    fn damage_instruction(&mut self, record: &mut [u8]) {
+        let places = record.len() as u32 / 4 - 1;
+        let place = self.random.below(places);
+        let at = 4 + 4 * place as usize;
+        let instruction = &mut record[at..at + 4];
+        match self.random.below(8) {
+            0 => instruction[0] = self.random.byte(),
+            1 => instruction[0] = self.random.pick(&[0, 1, 2, 3, 4, 5, 6, 7, 8]),
+            2 => instruction[1] = self.random.pick(&[2, 3, 4, 255]),
+            3 => instruction[2] = self.random.pick(&[1, 4, 64, 255]),
+            4 => instruction[3] = self.random.pick(&[1, 2, 32, 64, 255]),
+            5 => {
+                // Also over all that is left, and over all of it but the halt.
+                let left = (places - 1 - place) as u8;
+                let choices = [0, 1, left, left.max(1) - 1, 31, 63, 255];
+                let over = self.random.pick(&choices);
+                instruction.copy_from_slice(&[7, 0, 0, over]);
             }
-            11 => {
+            6 => {
                 let word = self.random.below(70) as u8;
-                let b = self.random.pick(&[2, 3]);
-                record[at..at + 4].copy_from_slice(&[b, 0, word, 0]);
-            }
-            12 => {
-                let word = self.random.byte();
-                record[at..at + 4].copy_from_slice(&[4, 0, 1, word]);
+                let op = self.random.pick(&[2, 3]);
+                instruction.copy_from_slice(&[op, 0, word, 0]);
             }
             _ => {
-                let count = self.random.pick(&[0, 33, 34, 64, 127]);
-                record.resize(4 + 4 * count, 0);
-                set_length(record);
+                let word = self.random.byte();
+                instruction.copy_from_slice(&[4, 0, 1, word]);
             }
         }
+    }
+
+    /// Gives a job record another count, mostly one at the edges of its kind
+    /// or of the other one, and perhaps another kind. What is added halts.
+    fn edge_job(&mut self, record: &mut Vec<u8>) {
+        let count = self.random.pick(&[0, 1, 32, 32, 33, 33, 64, 65, 65, 127]);
+        record.resize(4 + 4 * count, 0);
+        set_length(record);
+        record[2] = self.random.pick(&[1, 1, 1, 4, 4, 4, 0, 2, 3, 5]);
     }
 
     /// Makes a setup record wrong, or perhaps only another one.
@@ -542,7 +642,7 @@ impl Generator {
         match self.random.below(9) {
             0 => record[0] ^= 1 << self.random.below(8),
             1 => record[1] ^= 1 << self.random.below(8),
-            2 => record[2] = self.random.pick(&[0, 1, 2, 3, 255]),
+            2 => record[2] = self.random.pick(&[0, 1, 2, 3, 4, 5, 255]),
             3 => record[3] = self.random.pick(&[1, 255]),
             4 => {
                 let length = self.random.below(6) as usize;
@@ -576,7 +676,7 @@ fn set_length(record: &mut [u8]) {
 
 /// A history's calls end when its script has become longer than this, so
 /// that there is room for one more line of the longest and one after it. It
-/// hardly ever comes to that: a script has some 6,000 bytes.
+/// hardly ever comes to that: a script has some 13,000 bytes.
 const LONG_ENOUGH: usize = 62_000;
 
 /// One script of 200 to 400 calls, the same from the same seed. It writes

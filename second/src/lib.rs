@@ -8,5 +8,6 @@ pub mod compare;
 pub mod engine;
 pub mod files;
 pub mod generate;
+pub mod job;
 pub mod program;
 pub mod script;

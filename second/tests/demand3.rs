@@ -1,14 +1,14 @@
-//! The checker of demand 3 and of requests 02 and 03 over random histories of
+//! The checker of demand 3 and of requests 02 to 04 over random histories of
 //! the right engine, and over engines that are made wrong on purpose.
 
 mod common;
-use common::{job, setup};
+use common::{job, repeated, setup};
 use second::check::{random_history, Broken, Checker};
 use second::engine::{Engine, Wrong};
 use second::generate::Kind;
 use second::script::Call;
 
-const WRONG: [Wrong; 11] = [
+const WRONG: [Wrong; 12] = [
     Wrong::MarkBeforeLook,
     Wrong::SwapByValue,
     Wrong::ReleaseBeforeMark,
@@ -20,6 +20,7 @@ const WRONG: [Wrong; 11] = [
     Wrong::OwnSheetCounts,
     Wrong::NotTakenOfWorn,
     Wrong::WornAtStepFour,
+    Wrong::LogsOverlap,
 ];
 
 /// How many random histories are made, at most, until a wrong engine is
@@ -52,10 +53,15 @@ fn caught(wrong: Wrong, kind: Kind) -> Option<(u64, Broken)> {
     })
 }
 
+/// In each kind of history; but the jobs of narrow ones are too short for
+/// logs to meet.
 #[test]
 fn random_histories_catch_every_wrong_engine() {
     for wrong in WRONG {
         for kind in [Kind::Narrow, Kind::Wide] {
+            if (wrong, kind) == (Wrong::LogsOverlap, Kind::Narrow) {
+                continue;
+            }
             let found = caught(wrong, kind);
             println!("{wrong:?}, {kind:?}: {found:?}");
             assert!(found.is_some(), "{wrong:?} is not caught");
@@ -309,6 +315,73 @@ fn worn_since_step_three_on_schedule() {
         Collect(1),
     ];
     only_wrong_is_caught(Wrong::WornAtStepFour, &schedule, "told answer 4, not 3");
+}
+
+/// The 33rd entry of a log is the first of the next sheet's.
+#[test]
+fn logs_overlap_on_schedule() {
+    let schedule = [
+        Begin(0, job(&repeated([3, 0, 0, 0], 64))),
+        Step(0, 4 + 33 * 3),
+    ];
+    only_wrong_is_caught(
+        Wrong::LogsOverlap,
+        &schedule,
+        "sheet 1 has 1 entries of 0 fillings",
+    );
+}
+
+/// Two jobs of the longest run, 190 steps: stores, and cams that match, on a
+/// word that the first store made 0.
+fn longest_jobs() -> [Vec<u8>; 2] {
+    [[3, 0, 0, 0], [4, 0, 0, 0]].map(|change| {
+        let mut program = repeated(change, 64);
+        program[0] = [3, 0, 0, 0];
+        job(&program)
+    })
+}
+
+/// The longest job, left off at every place from its grab to its release: a
+/// try that begins then completes it in just 193 steps, whether its owner is
+/// dropped or goes on after it, to its own 196.
+#[test]
+fn the_longest_job_is_completed_from_anywhere() {
+    for longest in longest_jobs() {
+        for steps in 2..196 {
+            let begun = || vec![Begin(0, longest.clone()), Step(0, steps)];
+            let help = || vec![Begin(1, clear_other()), Step(1, 193), Collect(1)];
+            let go_on = vec![Step(0, 196 - steps), Collect(0)];
+            let dropped = [begun(), vec![Drop(0)], help()];
+            let overtaken = [begun(), help(), go_on];
+            for schedule in [dropped, overtaken] {
+                let schedule: Vec<Do> = schedule.into_iter().flatten().collect();
+                assert_eq!(scheduled(Wrong::Nothing, &schedule), Ok(()), "{steps}");
+            }
+        }
+    }
+}
+
+/// The same where its helper is left off too: a second one completes it.
+#[test]
+fn the_longest_job_is_completed_after_a_helper() {
+    for longest in longest_jobs() {
+        for steps in 2..196 {
+            for helping in [1, steps / 2, 192] {
+                let schedule = [
+                    Begin(0, longest.clone()),
+                    Step(0, steps),
+                    Begin(1, add_one()),
+                    Step(1, helping),
+                    Drop(0),
+                    Drop(1),
+                    Begin(2, clear_other()),
+                    Step(2, 193),
+                    Collect(2),
+                ];
+                assert_eq!(scheduled(Wrong::Nothing, &schedule), Ok(()), "{steps}");
+            }
+        }
+    }
 }
 
 /// The list holds the tries that won, in the order of their turns; a dropped

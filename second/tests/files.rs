@@ -1,7 +1,7 @@
 //! Call files: what a walk writes, what ends it, and the records of calls.
 
 mod common;
-use common::{bytes, job, setup, A, B, S};
+use common::{bytes, job, job_of_kind, repeated, setup, A, B, S};
 use second::engine::{Engine, Standing};
 use second::files::{call_record, run, walk, Ended, Walked};
 use second::generate::{Generator, Kind};
@@ -169,16 +169,45 @@ fn refusals_of_calls_do_not_end_the_walk() {
     assert_eq!(told(&[late, records.concat()].concat()), lines);
 }
 
-/// A begin has 1 to 32 instructions, and the engine gets just these.
+/// A begin has 1 to 64 instructions, and the engine gets just these, in a
+/// record of kind 1 up to 32, of kind 4 above.
 #[test]
 fn a_begin_s_instructions() {
-    for length in [1, 2, 31, 32] {
+    for length in 1..=64 {
         let file = after_s(&[record(0, 3, 1, &HALT.repeat(length))]);
         assert_eq!(run(&file), "0 0 0 0\n");
-        let mut shown = [0; 132];
+        let mut shown = [0; 260];
         let count = walk(&file).engine.show(0, &mut shown).unwrap();
         assert_eq!(shown[..count], job(&vec![HALT; length]));
     }
+    for length in [0, 65, 66, 128] {
+        let file = after_s(&[record(0, 3, 1, &HALT.repeat(length)), steps(3, 1)]);
+        assert_eq!(run(&file), "0 17 0 0\n");
+    }
+}
+
+/// The longest job is cut off after 32 of its 63 stores, and helped to its
+/// end; its helper's second try is a longest one too.
+#[test]
+fn the_longest_job_and_its_helper() {
+    let longest = |worker| record(0, worker, 0, &repeated([3, 0, 1, 0], 64).concat());
+    assert_eq!(longest(0)[..2], [8, 1]);
+    let file = after_s(&[
+        longest(0),
+        steps(0, 100),
+        drop_worker(0),
+        longest(1),
+        steps(1, 193),
+        collect(1),
+        longest(1),
+        steps(1, 196),
+        collect(1),
+    ]);
+    let mut wanted = vec!["0 0 0"; 495];
+    wanted[296] = "0 3 193 31";
+    wanted[494] = "0 2 196 63";
+    assert_eq!(told(&file), wanted);
+    assert_eq!(walk(&file).engine.read_word(1).unwrap().count, 126);
 }
 
 /// What a walk gives of a file whose setup is this one, with a call after it.
@@ -291,7 +320,7 @@ fn changed(record: &[u8], changes: &[(usize, u8)]) -> Vec<u8> {
 fn resized(record: &[u8], length: usize) -> Vec<u8> {
     let mut record = record.to_vec();
     record.resize(length, 0);
-    changed(&record, &[(0, length as u8)])
+    changed(&record, &[(0, length as u8), (1, (length >> 8) as u8)])
 }
 
 #[test]
@@ -318,7 +347,7 @@ fn records_refused_by_5() {
 #[test]
 fn records_refused_by_6() {
     for (place, byte) in [(2, 0), (2, 1), (2, 2), (2, 4), (2, 255), (3, 1), (3, 255)] {
-        for length in (4..14).chain([140]) {
+        for length in (4..14).chain([140, 264, 268]) {
             let other_kind = changed(&resized(&steps(0, 1), length), &[(place, byte)]);
             ended_before_others(&other_kind, 6);
         }
@@ -346,16 +375,15 @@ fn records_refused_by_17() {
             ended_before_others(&changed(&of(call), &[(6, byte)]), 17);
             ended_before_others(&changed(&of(call), &[(7, byte)]), 17);
         }
-        for length in [9, 10, 11, 12, 136, 140] {
+        for length in [9, 10, 11, 12, 136, 140, 264, 268] {
             ended_before_others(&resized(&of(call), length), 17);
         }
     }
-    // A begin: none, 33 and more, and no whole number of instructions.
-    for length in [8, 9, 10, 11, 13, 14, 15, 135, 137, 140, 144] {
+    // A begin: none, 65 and more, and no whole number of instructions.
+    let parts = (8..264).filter(|length| length % 4 != 0);
+    for length in parts.chain([8, 265, 266, 267, 268, 272, 520, 1_028]) {
         ended_before_others(&resized(&of(0), length), 17);
     }
-    let long = changed(&resized(&of(0), 8 + 256), &[(1, 1)]);
-    ended_before_others(&long, 17);
     let halt = record(0, 1, 0, &HALT);
     ended_before_others(&changed(&halt, &[(7, 1)]), 17);
 }
@@ -416,19 +444,36 @@ fn the_record_of_a_call() {
         let dropped = call_record(&Call::Drop(far));
         assert_eq!(dropped, Some(record(3, 255, 0, &[])));
     }
-    // A badly formed instruction is the call's to refuse; bytes that are no
-    // job record by 5 or 6 can't be recorded.
-    let bad = job(&[[8, 9, 9, 9]]);
-    assert_eq!(
-        record_of(bad.clone(), 0, 0),
-        Some(record(0, 0, 0, &bad[4..]))
-    );
-    let too_many = job(&[HALT; 33]);
-    for none in [&[], &a[..23], &bytes(S), &job(&[]), &too_many] {
-        assert_eq!(record_of(none.to_vec(), 0, 0), None);
-    }
     assert_eq!(call_record(&Call::Setup(bytes(S))), None);
     assert_eq!(call_record(&Call::Word(0)), None);
+}
+
+/// A badly formed instruction is the call's to refuse; bytes that are no job
+/// record by 5 or 6 can't be recorded.
+#[test]
+fn the_record_of_a_job() {
+    let record_of = |record: Vec<u8>| {
+        let (worker, lock) = (0, 0);
+        call_record(&Call::Begin {
+            worker,
+            lock,
+            record,
+        })
+    };
+    for instruction in [HALT, [8, 9, 9, 9]] {
+        for count in 1..=64 {
+            let program = vec![instruction; count];
+            let wanted = record(0, 0, 0, &program.concat());
+            assert_eq!(record_of(job(&program)), Some(wanted));
+        }
+    }
+    for (kind, count) in [(1, 0), (1, 33), (1, 64), (4, 0), (4, 32), (4, 65), (5, 33)] {
+        let none = job_of_kind(kind, &vec![HALT; count]);
+        assert_eq!(record_of(none), None);
+    }
+    for none in [&[], &bytes(A)[..23], &bytes(S)] {
+        assert_eq!(record_of(none.to_vec()), None);
+    }
 }
 
 /// The line that the program has to write for a call made directly.

@@ -13,9 +13,9 @@ fn field(bytes: &[u8]) -> usize {
     usize::from(u16::from_le_bytes([bytes[0], bytes[1]]))
 }
 
-/// Each call that was made: its call byte, then its line but for the index,
-/// with a 0 where the line has four numbers.
-fn calls(file: &[u8], walked: &Walked) -> Vec<[u32; 5]> {
+/// Each call that was made: its call byte, how many instructions it has, then
+/// its line but for the index, with a 0 where the line has four numbers.
+fn calls(file: &[u8], walked: &Walked) -> Vec<[u32; 6]> {
     let mut calls = Vec::new();
     let mut place = if walked.place == 0 { 0 } else { field(file) };
     for line in walked.lines.lines() {
@@ -27,29 +27,29 @@ fn calls(file: &[u8], walked: &Walked) -> Vec<[u32; 5]> {
         let collected = call == 2 && numbers[1] == 0;
         assert_eq!(numbers.len(), if collected { 5 } else { 4 }, "{line}");
         let filled = numbers.get(4).copied().unwrap_or(0);
-        calls.push([call, numbers[1], numbers[2], numbers[3], filled]);
-        place += field(&file[place..]);
+        let length = field(&file[place..]);
+        let count = (length - 8) as u32 / 4;
+        calls.push([call, count, numbers[1], numbers[2], numbers[3], filled]);
+        place += length;
     }
     calls
 }
 
 /// Each call is accepted, and is refused in each way that calls reach; all
-/// four answers are told, also of tries that helped, of those that filled
-/// entries in it, and of the longest ones.
+/// four answers are told, also of tries that helped, and of those that filled
+/// entries in it.
 #[test]
 fn calls_reach_everything() {
     let mut refusals = BTreeSet::new();
     let mut answers = BTreeSet::new();
-    let mut most_steps = 0;
     let mut helped = 0;
     let mut filling = 0;
     let mut worn = 0;
     for seed in 0..FILES {
         let file = file(seed);
-        for [call, refusal, answer, steps, filled] in calls(&file, &walk(&file)) {
+        for [call, _, refusal, answer, steps, filled] in calls(&file, &walk(&file)) {
             refusals.insert((call, refusal));
             answers.insert(answer);
-            most_steps = most_steps.max(steps);
             // Without a sheet to run, a try takes 4 steps at most.
             helped += u32::from(answer == 3 && steps > 4);
             filling += u32::from(answer == 3 && filled > 0);
@@ -67,10 +67,37 @@ fn calls_reach_everything() {
     ];
     assert_eq!(refusals, all.concat().into_iter().collect());
     assert_eq!(answers, BTreeSet::from([0, 1, 2, 3, 4]));
-    assert!(most_steps > 60, "{most_steps}");
     assert!(helped > 200, "{helped}");
     assert!(filling > 200, "{filling}");
     assert!(worn > 50, "{worn}");
+}
+
+/// Begins of every count are accepted; the longest runs are gone through by
+/// their owners, from step 3, and in the middle, where a helper finds a part
+/// of the log filled.
+#[test]
+fn calls_reach_the_longest_runs() {
+    let mut counts = BTreeSet::new();
+    let mut long = 0;
+    let mut longest = 0;
+    let mut runs = [0; 3];
+    for seed in 0..FILES {
+        let file = file(seed);
+        for [call, count, refusal, answer, steps, filled] in calls(&file, &walk(&file)) {
+            if (call, refusal) == (0, 0) {
+                counts.insert(count);
+                long += u32::from(count > 32);
+                longest += u32::from(count == 64);
+            }
+            runs[0] += u32::from(steps == 196 && answer < 3);
+            runs[1] += u32::from(steps == 196 && answer == 3);
+            runs[2] += u32::from(steps == 193 && (1..63).contains(&filled));
+        }
+    }
+    println!("{long} begun with 33 to 64, {longest} with 64, {runs:?}");
+    assert_eq!(counts, (1..=64).collect());
+    assert!(long > 1_000 && longest > 500, "{long}, {longest}");
+    assert!(runs[0] > 80 && runs[1] > 15 && runs[2] > 30, "{runs:?}");
 }
 
 /// Why a setup is refused, or that it is cut short.
@@ -116,8 +143,8 @@ fn call_faults(record: &[u8]) -> Vec<&'static str> {
         (alone && length % 4 != 0, "alone: another length"),
         (call == "begin" && length == 0, "begin: no program"),
         (call == "begin" && length % 4 != 0, "begin: a part"),
-        (call == "begin" && length == 4 * 33, "begin: one too many"),
-        (call == "begin" && length > 4 * 33, "begin: too many"),
+        (call == "begin" && length == 4 * 65, "begin: one too many"),
+        (call == "begin" && length > 4 * 65, "begin: too many"),
     ];
     let found = faults.iter().filter(|(there, _)| *there);
     found.map(|&(_, fault)| fault).collect()

@@ -1,7 +1,7 @@
 //! Every refusal with its place, and the order of each call's refusals.
 
 mod common;
-use common::{expect, job, setup};
+use common::{expect, job, repeated, setup};
 use second::engine::{Engine, LockWord, Refusal};
 use second::script::hex;
 
@@ -119,8 +119,6 @@ fn refusals_5_and_6_of_a_job() {
     }
     assert_eq!(begun_with(&[8, 1, 1, 0, 0, 0, 0, 0]), (5, 0));
     assert_eq!(begun_with(&[8, 0, 1, 1, 0, 0, 0, 0]), (6, 0));
-    assert_eq!(begun(&[HALT; 32]), (0, 0));
-    assert_eq!(begun(&[HALT; 33]), (5, 0));
     // A length that does not fit its field.
     let mut long = vec![0; 65_536 + 8];
     long[0] = 8;
@@ -326,24 +324,27 @@ fn refusals_12_13_and_15_of_park() {
     ));
 }
 
-/// Places far in the middle of a job.
+/// Places at the end of the longest job of each kind.
 #[test]
 fn refusals_at_the_last_places() {
-    let mut program = vec![[1, 0, 0, 0]; 31];
-    program.push(HALT);
-    assert_eq!(begun(&program), (0, 0));
-    program[30] = [2, 0, 2, 0];
-    assert_eq!(begun(&program), (8, 30));
-    program[29] = [7, 0, 0, 2];
-    assert_eq!(begun(&program), (7, 29));
-    program[29] = [7, 0, 0, 1];
-    program[30] = [1, 0, 0, 0];
-    assert_eq!(begun(&program), (0, 0));
-    program[0] = [7, 0, 0, 30];
-    assert_eq!(begun(&program), (0, 0));
-    program[0] = [7, 0, 0, 31];
-    assert_eq!(begun(&program), (7, 0));
-    program[0] = HALT;
-    program[31] = [1, 0, 0, 0];
-    assert_eq!(begun(&program), (7, 31));
+    for count in [32, 64] {
+        let last = count - 1;
+        let at = |place: usize| place as u32;
+        let mut program = repeated([1, 0, 0, 0], count);
+        assert_eq!(begun(&program), (0, 0));
+        program[last - 1] = [2, 0, 2, 0];
+        assert_eq!(begun(&program), (8, at(last - 1)));
+        program[last - 2] = [7, 0, 0, 2];
+        assert_eq!(begun(&program), (7, at(last - 2)));
+        program[last - 2] = [7, 0, 0, 1];
+        program[last - 1] = [1, 0, 0, 0];
+        assert_eq!(begun(&program), (0, 0));
+        program[0] = [7, 0, 0, last as u8 - 1];
+        assert_eq!(begun(&program), (0, 0));
+        program[0] = [7, 0, 0, last as u8];
+        assert_eq!(begun(&program), (7, 0));
+        program[0] = HALT;
+        program[last] = [1, 0, 0, 0];
+        assert_eq!(begun(&program), (7, at(last)));
+    }
 }

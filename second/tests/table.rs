@@ -1,7 +1,7 @@
 //! The example table of document 01, all rows.
 
 mod common;
-use common::{expect, job, setup, B};
+use common::{expect, job, job_of_kind, setup, B};
 use second::engine::Engine;
 use second::script::hex;
 
@@ -141,7 +141,7 @@ fn row_j() {
 
 #[test]
 fn row_k() {
-    let halts = |count: usize| hex(&job(&vec![[0, 0, 0, 0]; count]));
+    let halts = |count: usize| hex(&job_of_kind(1, &vec![[0, 0, 0, 0]; count]));
     assert_eq!(halts(32).len(), 2 * 132);
     let (full, above, none) = (halts(32), halts(33), halts(0));
     expect(&format!(
@@ -150,6 +150,26 @@ fn row_k() {
         begin 1 0 {above} => 5 0
         begin 1 0 {none} => 5 0
         show 0 132 => 0 0 132 {full}"
+    ));
+}
+
+/// Row k for request 04's kind: 64 instructions (260 bytes) and 33; 65, 32
+/// and none.
+#[test]
+fn row_k_of_kind_4() {
+    let halts = |count: usize| hex(&job_of_kind(4, &vec![[0, 0, 0, 0]; count]));
+    assert_eq!(halts(64).len(), 2 * 260);
+    let (full, fewest) = (halts(64), halts(33));
+    let (above, below, none) = (halts(65), halts(32), halts(0));
+    expect(&format!(
+        "setup S => 0 0
+        begin 0 0 {full} => 0 0
+        begin 1 0 {fewest} => 0 0
+        begin 2 0 {above} => 5 0
+        begin 2 0 {below} => 5 0
+        begin 2 0 {none} => 5 0
+        show 0 260 => 0 0 260 {full}
+        show 1 136 => 0 0 136 {fewest}"
     ));
 }
 

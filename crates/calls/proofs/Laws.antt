@@ -1,5 +1,5 @@
 -- Tests on a number that a callee read, r; and what is known of a record that is not cut short, or is accepted.
-use Prim.Native.Nat.{ℕ, zero, suc, _+_, _-_, _^_, _≤_, _<_}
+use Prim.Native.Nat.{ℕ, zero, suc, _+_, _-_, _≤_, _<_}
 use mathlib.Core.Path.{_≡_, refl, _∙_, sym, ap, subst}
 use mathlib.Core.Bool.{Bool, true, false}
 use mathlib.Core.List.{List, [], _∷_}
@@ -10,15 +10,15 @@ use lib.Dec.{ltb}
 use lib.ListN.{length, take, drop, length-drop}
 use borrow.Author.Tests.{ltb-false}
 use Rattle.parts.specs.Lay.{lay}
-use Rattle.parts.specs.Pick.{pick, _or_, _isnt_}
-use Rattle.parts.specs.Told.{refuseIf, firstOf}
+use Rattle.parts.specs.Pick.{pick, _or_}
+use Rattle.parts.specs.Told.{firstOf}
 use Rattle.parts.specs.declared.Refusal.the-variants.{Length, Kind, Buffer, CallRecord}
 use Rattle.parts.specs.declared.Told.{Told}
 use Rattle.parts.specs.declared.Told.the-variants.{Accepted}
 use Rattle.parts.proofs.Laws.{pick-eq, pick-ne, pick-lt, pick-nlt}
 use Rattle.parts.proofs.Order.{first-all, row-passes, neither, not-isnt}
 use Rattle.records.specs.Bytes.{lengthField, kindField, header}
-use Rattle.records.specs.Job.{formOrder}
+use Rattle.records.specs.Job.{forms, formOrder}
 use Rattle.records.proofs.Form.{form-four}
 use Rattle.records.proofs.Laws.{part-end}
 use Rattle.calls.specs.Record.{callKind, lastCall, callField, lockField, lastField, cutShort, noCallLength, lockUnused, badHead, recordOrder, recordTold, cappedOf, recordWith, callWith, callRecord, recordLength, writeOrder, writeTold}
@@ -124,7 +124,7 @@ record-size call w l code = omega arith
 -- a writer that was accepted: the call is one, a begin has a job record, and the buffer has room
 pub record Fits (call : ℕ) (rec : List ℕ) (room : ℕ) : Type 0 where
   pub most : call ≤ lastCall
-  pub form : call ≡ 0 → firstOf (formOrder rec) ≡ Accepted
+  pub form : call ≡ 0 → firstOf (formOrder forms rec) ≡ Accepted
   pub fit : recordLength call rec ≤ room
 
 pub fits : (call : ℕ) (rec : List ℕ) (room : ℕ) → writeTold call rec room ≡ Accepted → Fits call rec room
@@ -140,7 +140,7 @@ fits call rec room h =
 -- of a begin: its instructions stand from byte 4 on
 module _ (call : ℕ) (rec : List ℕ) (room : ℕ) (h : writeTold call rec room ≡ Accepted) where
   pub begin-four : call ≡ 0 → 4 ≤ length rec
-  begin-four e = form-four rec (firstOf (formOrder rec)) refl (fits call rec room h .form e)
+  begin-four e = form-four rec (firstOf (formOrder forms rec)) refl (fits call rec room h .form e)
 
   pub begin-room : call ≡ 0 → 8 + length (take (length rec - 4) (drop 4 rec)) ≤ room
   begin-room e =

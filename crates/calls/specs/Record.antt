@@ -1,11 +1,11 @@
 -- Request 01: "a call record, kind 3, bytes call (0 begin, 1 step, 2 collect, 3 drop), worker, lock, a zero, and for begin the job's 1
--- to 32 instructions."
+-- to 32 instructions." Request 04: "Call records of 33 to 64 instructions begin a kind 4 job."
 mod Names
 use Names.*
 use Rattle.parts.specs.Pick.{pick, _or_, _isnt_}
 use Rattle.parts.specs.Told.{refuseIf, firstOf}
 use Rattle.records.specs.Bytes.{lengthField, kindField, header}
-use Rattle.records.specs.Job.{jobKind, noJobLength, formOrder}
+use Rattle.records.specs.Job.{short, long, forms, kindFor, noJobLength, formOrder}
 use Rattle.engine.specs.Calls.{writeOf, bufferOf}
 use Rattle.past.specs.Past.{Call, Begin, Step, Collect, Drop, ReadWord, ReadLock, Show, Park}
 
@@ -35,7 +35,7 @@ cutShort s = ltb (length s) 2 or ltb (lengthField s) 4 or ltb (length s) (length
 
 -- "a length not 8 (begin: 8 + 4n)", which is 4 more than its job record's
 abbrev pub noCallLength : ℕ → ℕ → Bool
-noCallLength call n = pick (eqb call 0) (noJobLength (n - 4)) (n isnt 8)
+noCallLength call n = pick (eqb call 0) (noJobLength (short .fewest) (long .most) (n - 4)) (n isnt 8)
 
 -- "unused lock not 0": only begin names a lock
 abbrev pub lockUnused : ℕ → ℕ → Bool
@@ -61,9 +61,9 @@ unfoldable pub callWith : ℕ → ℕ → ℕ → List ℕ → Call
 callWith call w l rec =
     pick (eqb call 0) (Begin w l rec) (pick (eqb call 1) (Step w) (pick (eqb call 2) (Collect w) (Drop w)))
 
--- a begin's instructions become the job record: its length and kind in front
+-- a begin's instructions become the job record: its length, and its kind by their number, in front
 unfoldable pub jobIn : List ℕ → List ℕ
-jobIn s = header (lengthField s - 4) jobKind (take (lengthField s - 8) (drop 8 s))
+jobIn s = header (lengthField s - 4) (kindFor ((lengthField s - 8) / 4)) (take (lengthField s - 8) (drop 8 s))
 
 -- the call that an accepted record makes
 abbrev pub callIn : List ℕ → Call
@@ -96,7 +96,7 @@ recordLength call rec = pick (eqb call 0) (4 + length rec) 8
 abbrev pub writeOrder : ℕ → List ℕ → ℕ → List Told
 writeOrder call rec room =
     refuseIf (ltb lastCall call) CallRecord ∷
-    pick (eqb call 0) (firstOf (formOrder rec)) Accepted ∷
+    pick (eqb call 0) (firstOf (formOrder forms rec)) Accepted ∷
     refuseIf (ltb room (recordLength call rec)) Buffer ∷
     []
 

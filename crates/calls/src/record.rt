@@ -5,6 +5,7 @@ ghost use lib.ListN.{length};
 ghost use Rattle.parts.specs.declared.Told.the-variants.{Accepted};
 ghost use Rattle.records.specs.Bytes.{lengthField};
 ghost use Rattle.calls.specs.Record.{noCallLength, lockUnused, cutShort, badHead, noCall, recordTold};
+use parts::INSTRUCTIONS;
 use parts::Refusal;
 use parts::Told;
 
@@ -14,7 +15,7 @@ fn no_call_length(call: u8, n: usize) -> bool
     ensures { λ r. ⌜ r ≡ noCallLength call n ⌝ }
 {
     if call == 0 {
-        return records::job::no_job_length(n - 4);
+        return records::job::no_job_length(1, INSTRUCTIONS, n - 4);
     }
     if n == 8 {
         return false;

@@ -8,7 +8,7 @@ ghost use Rattle.parts.specs.Pick.{pick};
 ghost use Rattle.parts.specs.Told.{firstOf, refuseIf};
 ghost use Rattle.parts.specs.declared.Refusal.the-variants.{Buffer};
 ghost use Rattle.parts.specs.declared.Told.the-variants.{Accepted};
-ghost use Rattle.records.specs.Job.{formOrder};
+ghost use Rattle.records.specs.Job.{forms, formOrder};
 ghost use Rattle.calls.specs.Record.{cappedOf, recordWith, callWith, callRecord, recordLength, writeTold, recordedOf, recordedIn};
 use engine::WriteTold;
 use parts::Refusal;
@@ -39,7 +39,7 @@ fn put_record(call: u8, w: u32, lock: u32, code: &[u8], buf: &mut [u8]) -> usize
 
 // For begin, 5 and 6: is it a job record?
 fn form_of(call: u32, rec: &[u8]) -> Told
-    ensures { λ r. ⌜ r ≡ pick (eqb call 0) (firstOf (formOrder (now (rec .entry)))) Accepted ⌝ }
+    ensures { λ r. ⌜ r ≡ pick (eqb call 0) (firstOf (formOrder forms (now (rec .entry)))) Accepted ⌝ }
 {
     if call == 0 {
         return records::job::form_told(rec);

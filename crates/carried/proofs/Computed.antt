@@ -14,7 +14,7 @@ use Rattle.parts.specs.Told.{onTold, answerNumber, refusalNumber, refusalPlace}
 use Rattle.parts.specs.declared.Told.{Told}
 use Rattle.parts.specs.declared.Told.the-variants.{Accepted}
 use Rattle.records.specs.Bytes.{u32sOf}
-use Rattle.records.specs.Job.{badlyFormed, codeTold, instrTold, instrsOf, jobTold, straysAt}
+use Rattle.records.specs.Job.{badlyFormed, codeTold, instrTold, instrsOf, toldBy, straysAt}
 use Rattle.records.specs.Setup.{guardsTold, setupTold, turnsTold}
 use Rattle.sheets.specs.Sheets.{anyOf, inUseOf, lowestOf}
 use Rattle.steps.specs.Places.{helpedOf}
@@ -64,7 +64,7 @@ record RowA (s : List ℕ) : Type 0 where
   left : LentStands (lentAll s (Begin 0 0 jobA ∷ steps 14 0)) 6 1 1 0 0
 
 computed : RowA (filledNumbers zeros setupS)
-unfolding wordsFrom wordOf lay parts.grabOf parts.releaseOf parts.holdsOf parts.swapOf registerOf wornOf answerNumber refusalNumber refusalPlace u32sOf badlyFormed codeTold instrTold instrsOf jobTold straysAt guardsTold setupTold turnsTold anyOf inUseOf lowestOf helpedOf try.answerOf worker.beganOf worker.beginByState worker.collectByState worker.stepByState beginTold collectOf readLockOf readWordOf setupS jobA answerIn stateIn workerNumbers unpack putSizes tab piecesOf putPiece numberAt putNumber runNow readNow seenNow atRegister steppedTo toGrab toLookAgain toReadMark cleared started passed went toMark holding logged loaded toSwap finished counted instrNow looked lookNumbers grabNumbers lookAgainNumbers startedOwn startedSeen markRead readMarkNumbers firstNumbers readNumbers followNumbers entryFilled committed commitNumbers swapNumbers markNumbers releaseNumbers onwardNumbers stepNumbers putAll filledNumbers copiedNumbers begunNumbers beginNumbers lentAll lentAfter zeros refusalReply
+unfolding wordsFrom wordOf lay parts.grabOf parts.releaseOf parts.holdsOf parts.swapOf registerOf wornOf answerNumber refusalNumber refusalPlace u32sOf badlyFormed codeTold instrTold instrsOf toldBy straysAt guardsTold setupTold turnsTold anyOf inUseOf lowestOf helpedOf try.answerOf worker.beganOf worker.beginByState worker.collectByState worker.stepByState beginTold collectOf readLockOf readWordOf setupS jobA answerIn stateIn workerNumbers unpack putSizes tab piecesOf putPiece numberAt putNumber runNow readNow seenNow atRegister steppedTo toGrab toLookAgain toReadMark cleared started passed went toMark holding logged loaded toSwap finished counted instrNow looked lookNumbers grabNumbers lookAgainNumbers startedOwn startedSeen markRead readMarkNumbers firstNumbers readNumbers followNumbers entryFilled committed commitNumbers swapNumbers markNumbers releaseNumbers onwardNumbers stepNumbers putAll filledNumbers copiedNumbers begunNumbers beginNumbers lentAll lentAfter zeros refusalReply
 computed = record { before = refl; told = refl; left = record { word = refl; lock = refl } }
 
 pub row-a : LentEnds (Begin 0 0 jobA ∷ []) 0 (record { more = 14; answer = ranYes; steps = 14; filled = 2; value = 6; count = 1; turn = 1 })

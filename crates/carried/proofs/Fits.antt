@@ -1,5 +1,5 @@
 -- By the rows of each call's order: those that tell a place of a record stand behind the one that bounds its length.
-use Prim.Native.Nat.{ℕ, zero, suc, _+_, _*_, _%_, _^_, _≤_, _<_}
+use Prim.Native.Nat.{ℕ, zero, suc, _+_, _*_, _^_, _≤_, _<_}
 use native.Mathlib.Omega.{arith}
 use mathlib.Core.Path.{_≡_, refl, subst}
 use mathlib.Core.Bool.{Bool, true, false}
@@ -18,11 +18,12 @@ use Rattle.parts.specs.declared.Refusal.{Refusal}
 use Rattle.parts.specs.declared.Refusal.the-variants.{NoWorker, NoLock, WorkerUnderWay, NotCollected, Length, Kind, Instruction, Guard, LastTurn, NoSheet, WorkerIdle, Range, Buffer, SheetFree, Held, NoWord, CallRecord}
 use Rattle.parts.specs.declared.Told.{Told}
 use Rattle.parts.specs.declared.Told.the-variants.{Accepted, Refused}
-use Rattle.parts.proofs.Order.{first-all, first-exactly, row-passes, neither, not-isnt}
+use Rattle.parts.proofs.Order.{first-exactly, neither, not-isnt}
 use Rattle.records.specs.Bytes.{wrongLength, u32sBytes, kindField}
-use Rattle.records.specs.Job.{jobKind, jobOf, badlyFormed, endsOtherwise, straysAt, noJobLength, formOrder}
+use Rattle.records.specs.Job.{forms, jobOf, badlyFormed, endsOtherwise, straysAt, noJobKind, outsideKind, formOrder}
+use Rattle.records.proofs.Form.{job-count, form-known, formed}
 use Rattle.records.specs.Setup.{setupKind, locksField, wordsField, guardsField, turnsField, setupLength, outside}
-use Rattle.records.proofs.Fours.{instrs-length, u32s-length, code-length, bytes-length}
+use Rattle.records.proofs.Fours.{u32s-length, code-length, bytes-length}
 use Rattle.engine.specs.Calls.{isFree, writeOf, showTold, showOf, parkTold, parkOf}
 use Rattle.engine.specs.State.{lockAt, freeSheet, lockCount, wordCount, locksOf, wordsOf, baseOf, programLength, programOf, sheetRecord, stateRecord}
 use Rattle.engine.specs.declared.Engine.{Engine}
@@ -110,15 +111,11 @@ held-below n (l ∷ ls) at ts h k =
 most : {A : Type 0} (n : ℕ) (l : List A) → length (take n l) ≤ n
 most n l = omega (arith, length-take n l)
 
--- a record that passed the row on a job's length has at most so many bytes, and a job of at most so many instructions
-record-most : (rec : List ℕ) → noJobLength (length rec) ≡ false → length rec ≤ 4 + 4 * instructions
-record-most rec h =
-    let b = neither (length rec % 4 isnt 0) (ltb (length rec) 8 or ltb (4 + 4 * instructions) (length rec)) h in
-    let c = neither (ltb (length rec) 8) (ltb (4 + 4 * instructions) (length rec)) (b .1) in
-    ltb-false (4 + 4 * instructions) (length rec) (c .1)
-
-job-most : (rec : List ℕ) → noJobLength (length rec) ≡ false → length (jobOf rec) ≤ instructions
-job-most rec h = omega (arith, record-most rec h, length-drop 4 rec, instrs-length (drop 4 rec))
+-- a record that passed the rows on a job's kind and length has a job of at most so many instructions
+job-most :
+    (rec : List ℕ) → noJobKind forms (kindField rec) ≡ false → outsideKind forms (kindField rec) (length rec) ≡ false →
+    length (jobOf rec) ≤ instructions
+job-most rec a b = form-known (kindField rec) (length rec) (length (jobOf rec)) (job-count rec) a b .2
 
 begin-below : (e : Engine) (w l : ℕ) (rec : List ℕ) → Below (2 ^ 32) (beginRows e w l rec)
 unfolding refusalPlace
@@ -128,9 +125,9 @@ begin-below e w l rec =
     row (2 ^ 32) (isFinished (stateOf e w)) NotCollected _ (omega arith) (λ _.
     row (2 ^ 32) (leb (lockCount e) l) NoLock _ (omega arith) (λ _.
     row (2 ^ 32) (wrongLength rec) Length _ (omega arith) (λ _.
-    row (2 ^ 32) (kindField rec isnt jobKind) Kind _ (omega arith) (λ _.
-    row (2 ^ 32) (noJobLength (length rec)) Length _ (omega arith) (λ h.
-    code-below (2 ^ 32) (jobOf rec) 0 l (guardsOf (wordsOf e)) _ (omega (arith, job-most rec h)) (
+    row (2 ^ 32) (noJobKind forms (kindField rec)) Kind _ (omega arith) (λ k.
+    row (2 ^ 32) (outsideKind forms (kindField rec) (length rec)) Length _ (omega arith) (λ h.
+    code-below (2 ^ 32) (jobOf rec) 0 l (guardsOf (wordsOf e)) _ (omega (arith, job-most rec k h)) (
     row (2 ^ 32) (wornOf (lockAt e l)) LastTurn _ (omega arith) (λ _.
     row (2 ^ 32) (leb sheets (freeSheet e)) NoSheet _ (omega arith) (λ _.
     end (2 ^ 32)))))))))))
@@ -172,7 +169,7 @@ park-below e room =
 none : (rows : List Told) (r : Refusal) → Below 1 rows → Given rows r → refusalPlace r ≡ 0
 none rows r b g = omega (arith, given-below 1 rows r b g)
 
--- the records that show and park write: at most 132 and 390 bytes
+-- the records that show and park write: at most 260 and 390 bytes
 show-size : (e : Engine) (s : ℕ) → length (sheetRecord e s) ≤ 4 + 4 * instructions
 show-size e s =
     omega (arith, code-length (programOf e s), most (programLength e s) (drop (baseOf s) (e .program)))
@@ -209,22 +206,22 @@ one-below : (b : Bool) (r : Refusal) → refusalPlace r < 1 → Below 1 (refuseI
 one-below b r h = row 1 b r [] h (λ _. end 1)
 
 -- the rows of the writer of a call's record: for a begin, those of its job record's form
-form-below : (rec : List ℕ) → Below 1 (formOrder rec)
+form-below : (rec : List ℕ) → Below 1 (formOrder forms rec)
 unfolding refusalPlace
 form-below rec =
     row 1 (wrongLength rec) Length _ (omega arith) (λ _.
-    row 1 (kindField rec isnt jobKind) Kind _ (omega arith) (λ _.
-    one-below (noJobLength (length rec)) Length (omega arith)))
+    row 1 (noJobKind forms (kindField rec)) Kind _ (omega arith) (λ _.
+    one-below (outsideKind forms (kindField rec) (length rec)) Length (omega arith)))
 
 record-below : (call : ℕ) (rec : List ℕ) (room : ℕ) → Below 1 (writeOrder call rec room)
 unfolding refusalPlace
 record-below call rec room =
     row 1 (ltb lastCall call) CallRecord _ (omega arith) (λ _.
-    told-row 1 (pick (eqb call 0) (firstOf (formOrder rec)) Accepted) _ (form (eqb call 0))
+    told-row 1 (pick (eqb call 0) (firstOf (formOrder forms rec)) Accepted) _ (form (eqb call 0))
     (one-below (ltb room (recordLength call rec)) Buffer (omega arith)))
   where
-    form : (b : Bool) (r : Refusal) → pick b (firstOf (formOrder rec)) Accepted ≡ Refused r → refusalPlace r < 1
-    form true r h = given-below 1 (formOrder rec) r (form-below rec) (first-exactly (formOrder rec) r .0 h)
+    form : (b : Bool) (r : Refusal) → pick b (firstOf (formOrder forms rec)) Accepted ≡ Refused r → refusalPlace r < 1
+    form true r h = given-below 1 (formOrder forms rec) r (form-below rec) (first-exactly (formOrder forms rec) r .0 h)
     form false r h = let z : _≡_ {A = ℕ} 0 1 = cc in absurd (omega arith)
 
 -- a writer that tells a refusal was refused so
@@ -232,15 +229,14 @@ write-refused : (told : Told) (bytes : List ℕ) (r : Refusal) → writeOf told 
 write-refused Accepted bytes r h = let z : _≡_ {A = ℕ} 0 1 = cc in absurd (omega arith)
 write-refused (Refused q) bytes r h = cc
 
--- the record of a call: at most 136 bytes
+-- the record of a call: at most 264 bytes
 call-size :
     (call w l : ℕ) (rec : List ℕ) (room : ℕ) → writeTold call rec room ≡ Accepted →
     length (callRecord (callWith call w l rec)) ≤ 8 + 4 * instructions
 unfolding callWith callRecord
 call-size zero w l rec room h =
-    let formed = first-all (formOrder rec) (written zero rec room h .form refl) in
-    let most = record-most rec (row-passes (noJobLength (length rec)) Length (formed 2)) in
-    omega (arith, record-size 0 w l (drop 4 rec), length-drop 4 rec, most)
+    let f = formed rec (written zero rec room h .form refl) in
+    omega (arith, record-size 0 w l (drop 4 rec), length-drop 4 rec, f .size, f .most)
 call-size (suc zero) w l rec room h = omega (arith, record-size 1 w 0 [])
 call-size (suc (suc zero)) w l rec room h = omega (arith, record-size 2 w 0 [])
 call-size (suc (suc (suc zero))) w l rec room h = omega (arith, record-size 3 w 0 [])

@@ -22,7 +22,7 @@ use Rattle.parts.specs.declared.Word.{Word}
 use Rattle.parts.proofs.Lay.{lay-append}
 use Rattle.parts.proofs.Order.{first-all, row-passes, neither}
 use Rattle.records.specs.Bytes.{u32sBytes, header}
-use Rattle.records.specs.Job.{jobKind, codeBytes, jobRecord}
+use Rattle.records.specs.Job.{kindFor, codeBytes, jobRecord}
 use Rattle.records.specs.Setup.{setupKind, setupLength}
 use Rattle.records.proofs.Fours.{code-length, bytes-length}
 use Rattle.engine.specs.Calls.{showOrder, showTold, parkOrder, parkTold}
@@ -59,15 +59,16 @@ program-size program base n h k =
     omega (arith, code-length (take n (drop base program)))
 
 pub program-laid :
-    (program : List Instr) (base n : ℕ) (buf mid next : List ℕ) →
-    mid ≡ lay 0 (header (4 + 4 * n) jobKind []) buf →
+    (program : List Instr) (base n kind : ℕ) (buf mid next : List ℕ) →
+    mid ≡ lay 0 (header (4 + 4 * n) kind []) buf →
+    kind ≡ kindFor n →
     next ≡ lay 4 (codeBytes (take n (drop base program))) mid →
     base + n ≤ entries →
     length program ≡ entries →
     next ≡ lay 0 (jobRecord (take n (drop base program))) buf
-program-laid program base n buf mid next e f h k =
-    simp (code-count program base n (omega arith))
-    (laid-past 0 4 (header (4 + 4 * n) jobKind []) _ buf mid next (omega arith) e f)
+program-laid program base n kind buf mid next e q f h k =
+    simp (code-count program base n (omega arith), ← q)
+    (laid-past 0 4 (header (4 + 4 * n) kind []) _ buf mid next (omega arith) e f)
 
 -- two bytes past a header
 pub sizes-laid :

@@ -13,8 +13,8 @@ use Rattle.steps.specs.Worker.{worker0}
 abbrev pub sheet0 : Sheet
 sheet0 = record { length = 0; done = false }
 
--- "the blank state: no locks, no words, idle workers, free sheets"; "All sheets' entries stand together, 1,024 of them, all
--- empty at the start."
+-- "the blank state: no locks, no words, idle workers, free sheets"; "All sheets' entries stand together
+-- .., all empty at the start."
 unfoldable pub blankOf : Engine
 blankOf =
     record {

@@ -41,7 +41,7 @@ fn put_program(program: [Instr; ENTRIES], base: usize, n: usize, buf: &mut [u8])
     ensures { λ _. ⌜ now (buf .exit) ≡ lay 0 (jobRecord (take n (drop base program))) (now (buf .entry)) ⌝ }
 {
     let size = 4 + 4 * n;
-    records::put_header(buf, size, 1);
+    records::put_header(buf, size, records::job::kind_for(n));
     arrays::written::put_code(program, base, n, buf, 4);
     size
 }

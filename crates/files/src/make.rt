@@ -12,6 +12,7 @@ use engine::Engine;
 use engine::Outcome;
 use parts::Refusal;
 use parts::Told;
+use records::job::JOB_BYTES;
 
 // What a line says after its index: the refusal number (0 if accepted), or the answer, the steps and the entries filled of a
 // collect that is accepted.
@@ -63,13 +64,13 @@ fn quiet(out: Outcome) -> Made
 }
 
 // The job record of a begin: the record's instructions, with a job record's length and kind in front.
-fn put_job(s: &[u8], job: &mut [u8; 132]) -> usize
+fn put_job(s: &[u8], job: &mut [u8; JOB_BYTES]) -> usize
     requires { ⌜ (recordTold (now s) ≡ Accepted) × (callField (now s) ≡ 0) ⌝ }
     ensures { λ r. ⌜ take r (now (job .exit)) ≡ jobIn (now (s .entry)) ⌝ }
     ensures { λ r. ⌜ r ≤ length (now (job .exit)) ⌝ }
 {
     let size = calls::record::size_of(s);
-    records::put_header(job, size - 4, 1);
+    records::put_header(job, size - 4, records::job::kind_for((size - 8) / 4));
     records::put_bytes(&s[8..size], job, 4);
     size - 4
 }
@@ -78,7 +79,7 @@ fn on_begin(engine: Engine, w: u8, lock: u8, s: &[u8]) -> Made
     requires { ⌜ (recordTold (now s) ≡ Accepted) × (callField (now s) ≡ 0) ⌝ }
     ensures { λ r. ⌜ r ≡ madeOf engine (Begin w lock (jobIn (now (s .entry)))) ⌝ }
 {
-    let mut job = [0u8; 132];
+    let mut job = [0u8; JOB_BYTES];
     let n = put_job(s, &mut job);
     let out = engine.begin(w as u32, lock as u32, &job[..n]);
     quiet(out)

@@ -94,6 +94,19 @@ to-do most (Point.Run r (Swap e new)) = omega arith
 to-do most (Point.Run r (Mark said)) = omega arith
 to-do most (Point.Run r (Release said)) = omega arith
 
+-- a step of a run before its halt leaves fewer to do
+pub run-falls :
+    (K : Rules) (E : Scene) (T : Tale) (st : ℕ → Status) → Ok K E T st → (i : ℕ) (r : Run) (at : Stage) →
+    E .worker i .state ≡ UnderWay (Point.Run r at) → Going at →
+    leftAt (K .most) (paceOf (E .program (r .sheet)) (sharedOf E (r .sheet)) r at .run)
+    (paceOf (E .program (r .sheet)) (sharedOf E (r .sheet)) r at .stage) < leftAt (K .most) r at
+run-falls K E T st o i r at e g =
+    let x = sharedOf E (r .sheet) in
+    let q = mine K E T st o i (Point.Run r at) e .1 .0 in
+    let page = on-sheet K E T st o (r .sheet) (q .0 .won .is) in
+    subst (λ (c : List Instr). leftAt (K .most) (paceOf c x r at .run) (paceOf c x r at .stage) < leftAt (K .most) r at)
+    (page .code) (paced K (st (r .sheet) .job) (page .fine) (st (r .sheet) .front) x r at (q .1) g)
+
 -- worker i is at a point of its try on lock l, which another sheet, s, has held since turn t
 module _ (K : Rules) (T : Tale) (i l s t : ℕ) where
   record Helps (E : Scene) (p : Point) : Type 0 where
@@ -163,15 +176,9 @@ module _ (K : Rules) (T : Tale) (i l s t : ℕ) where
       OnRun s t r at → leftAt (K .most) r at ≤ suc n → Going at → Next K (pacedOf E i (E .worker i) r at) T →
       Completed K (aloneSteps K i n (pacedOf E i (E .worker i) r at)) T i l t
   run-step n ih E st o r at h on b g next =
-      let x = sharedOf E (r .sheet) in
-      let q = mine K E T st o i (Point.Run r at) (h .state) .1 .0 in
-      let page = on-sheet K E T st o (r .sheet) (q .0 .won .is) in
-      let falls =
-      subst (λ (c : List Instr). leftAt (K .most) (paceOf c x r at .run) (paceOf c x r at .stage) < leftAt (K .most) r at)
-      (page .code) (paced K (st (r .sheet) .job) (page .fine) (st (r .sheet) .front) x r at (q .1) g) in
-      let to = run-on (E .program (r .sheet)) x r at g in
+      let to = run-on (E .program (r .sheet)) (sharedOf E (r .sheet)) r at g in
       ih _ (next .st) (next .ok) _ _ (moved E _ (Point.Run r at) _ refl refl h) (to .0 ∙ on .0, to .1 ∙ on .1, to .2)
-      (omega (arith, falls))
+      (omega (arith, run-falls K E T st o i r at (h .state) g))
 
   step-on : (n : ℕ) → Helper n → Helper (suc n)
   unfolding stepAt stepTale

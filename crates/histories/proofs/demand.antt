@@ -3,5 +3,6 @@ pub mod Turns
 pub mod Listed
 pub mod Helped
 pub mod Uncut
+pub mod Sooner
 pub mod Demand
 pub mod Cuts

@@ -161,9 +161,9 @@ pub record HeldWords (e₀ : Engine) (x : Sofar) (l s : ℕ) : Type 0 where
   pub k : ℕ
   pub words : Hold e₀ (x .state) l (partOf k (last .program) (given e₀ x earlier))
 
--- worker w begins on lock l and is stepped alone: what the history comes to then
+-- worker w begins on lock l and is stepped alone, 193 times: what the history comes to then
 abbrev pub helped : Sofar → ℕ → ℕ → List ℕ → Sofar
-helped x w l rec = follow x (Begin w l rec ∷ steps (helpSteps instructions) w)
+helped x w l rec = follow x (Begin w l rec ∷ steps 193 w)
 
 -- the begin is accepted; then the worker has finished, not taken, the lock is free at the same turn, and its words hold what all
 -- its jobs give
@@ -221,7 +221,7 @@ pub record WorkerUncut (e : Engine) (w : ℕ) (p : Point) : Type 0 where
   pub point : PointUncut e p
 
 -- of a state: L and W, and a sheet's number of instructions, are what it has; every word is guarded by one of the L locks, its value
--- has 32 bits and its count, below 2 to the 31st, rises by one
+-- has 32 bits, and its count stays below 2 to the 32nd, once more raised too
 pub record Uncut (e : Engine) : Type 0 where
   pub locks : lockCount e ≡ e .locks
   pub words : wordCount e ≡ e .words
@@ -229,7 +229,7 @@ pub record Uncut (e : Engine) : Type 0 where
   pub program : (s : ℕ) → programLength e s ≡ getD (e .sheet) s sheet0 .length
   pub turn : (l : ℕ) → lockAt e l .turn ≤ lastTurn
   pub value : (q : ℕ) → wordAt e q .value < 2 ^ 32
-  pub count : (q : ℕ) → q < e .words → wordAt e q .count < 2 ^ 31
+  pub count : (q : ℕ) → q < e .words → wordAt e q .count + 1 < 2 ^ 32
   pub worker : (w : ℕ) (p : Point) → workerAt e w .state ≡ UnderWay p → WorkerUncut e w p
 
 -- "Cut any sequence of calls from a valid setup anywhere, drops included.": what holds at the end of every history
@@ -238,7 +238,8 @@ pub record Promised (e₀ : Engine) (x : Sofar) : Type 0 where
   pub free : (l : ℕ) → lockAt (x .state) l .holder ≡ Free → Hold e₀ (x .state) l (given e₀ x (x .won l))
   -- "If it is held, they are what all but the last give and then some first part of the last"
   pub held : (l s : ℕ) → lockAt (x .state) l .holder ≡ By s → HeldWords e₀ x l s
-  -- "any worker that then begins a valid job there and is stepped alone completes the last one within 97 steps": every idle worker
+  -- "any worker that then begins a valid job there and is stepped alone completes the last one within 97 steps", 193 since request 04:
+  -- every idle worker
   pub helping :
       (l s : ℕ) → lockAt (x .state) l .holder ≡ By s → (w : ℕ) (rec : List ℕ) → w < workers →
       workerAt (x .state) w .state ≡ Idle → AllBytes rec →
@@ -259,15 +260,21 @@ pub record Promised (e₀ : Engine) (x : Sofar) : Type 0 where
   pub once : (n l : ℕ) → times n (x .won l) ≤ 1
   pub only : (n l m : ℕ) → 1 ≤ times n (x .won l) → 1 ≤ times n (x .won m) → l ≡ m
   pub turn : (l : ℕ) → lockAt (x .state) l .turn ≡ lockAt e₀ l .turn + length (x .won l)
-  -- "Every try ends within 100 of its own steps": while it is under way it has made fewer, and can make the next
+  -- "Every try ends within 100 of its own steps", 196 since request 04: while it is under way it has made fewer, and can make the next
   pub ends :
       (w : ℕ) (p : Point) → w < workers → workerAt (x .state) w .state ≡ UnderWay p →
-      (x .steps w < trySteps instructions) × GoesOn (x .state) w
+      (x .steps w < 196) × GoesOn (x .state) w
+  -- document 01's "one that helps from step 1 at most 97", 193 since request 04: a try whose Look found its lock held, whoever steps in
+  -- between
+  pub endsHelping :
+      (w s : ℕ) → x .found w .holder ≡ By s →
+      ((p : Point) → workerAt (x .state) w .state ≡ UnderWay p → x .steps w < 193) ×
+      ((a : Answer) (n m : ℕ) → collectOf (x .state) w .told ≡ CollectTold.Answered a n m → n ≤ 193)
   -- "Collect (worker) hands out .. the number of accepted steps since begin"
   pub counted :
       (w : ℕ) (a : Answer) (n m : ℕ) → collectOf (x .state) w .told ≡ CollectTold.Answered a n m →
-      (n ≡ x .steps w) × (n ≤ trySteps instructions)
-  -- turns at most 67,108,864, counts below 2 to the 31st, and nothing is cut
+      (n ≡ x .steps w) × (n ≤ 196)
+  -- turns at most 67,108,864, counts below 2 to the 32nd, and nothing is cut
   pub uncut : Uncut (x .state)
 
 -- the state is the state after the calls, and all of the above holds of it

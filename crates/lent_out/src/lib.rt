@@ -57,7 +57,7 @@ fn put_program(s: &[u32], base: usize, n: usize, buf: &mut [u8]) -> usize
     ensures { λ _. ⌜ now (buf .exit) ≡ lay 0 (jobRecord (take n (drop base (unpack (now (s .entry)) .program)))) (now (buf .entry)) ⌝ }
 {
     let size = 4 + 4 * n;
-    records::put_header(buf, size, 1);
+    records::put_header(buf, size, records::job::kind_for(n));
     loops::put_code(s, base, n, buf, 4);
     size
 }

@@ -1,4 +1,4 @@
--- The engine's numbers, as document 01 has them. Every definition and every law names them.
+-- The engine's numbers, as document 01 and request 04 have them.
 use Prim.Native.Nat.{ℕ, _+_, _*_, _-_}
 
 -- "8 workers (0 to 7)"
@@ -17,15 +17,15 @@ mostWords = 64
 abbrev pub sheets : ℕ
 sheets = 32
 
--- "1 to 32 instructions in a job", "32 log entries on a sheet"
+-- the most instructions in a job and log entries on a sheet; request 04: "64 instructions and 64 log entries"
 abbrev pub instructions : ℕ
-instructions = 32
+instructions = 64
 
 -- "4 registers": the highest register's number
 abbrev pub lastRegister : ℕ
 lastRegister = 3
 
--- "All sheets' entries stand together, 1,024 of them"
+-- "All sheets' entries stand together", 2,048 of them
 abbrev pub entries : ℕ
 entries = sheets * instructions
 
@@ -33,11 +33,10 @@ entries = sheets * instructions
 abbrev pub lastTurn : ℕ
 lastTurn = 67108864
 
--- "The longest run is 31 × 3 + 1 = 94 steps", of a job of n instructions
+-- Request 04: "The longest run becomes 63 × 3 + 1 = 190, a helping try 193, any try 196": where a job has at most n instructions
 abbrev pub longestRun : ℕ → ℕ
 longestRun n = (n - 1) * 3 + 1
 
--- "A try is at most 4 + 94 + 2 = 100, one that helps from step 1 at most 97"
 abbrev pub trySteps : ℕ → ℕ
 trySteps n = 4 + longestRun n + 2
 

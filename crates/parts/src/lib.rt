@@ -14,7 +14,7 @@ pub const WORDS: usize = 64;
 pub const SHEETS: usize = 32;
 
 // In a job, and log entries on a sheet.
-pub const INSTRUCTIONS: usize = 32;
+pub const INSTRUCTIONS: usize = 64;
 
 pub const REGISTERS: usize = 4;
 

@@ -77,7 +77,7 @@ GoodFill (Filled r) = GoodReading r
 abbrev pub GoodEntry : Entry → Type 0
 GoodEntry e = GoodFill (e .fill)
 
--- "1 to 32 instructions in a job"; a sheet that no job was copied to has none
+-- 1 to 64 instructions in a job; a sheet that no job was copied to has none
 abbrev pub GoodSheet : Sheet → Type 0
 GoodSheet s = s .length ≤ instructions
 

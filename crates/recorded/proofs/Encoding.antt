@@ -9,19 +9,20 @@ use lib.ListN.{length, getD, take, drop, length-drop, length-append}
 use lib.Seq.{length-take-le, take-append-seam}
 use borrow.Author.Tests.{eq-eqb, le-ltb, ltb-false, eqb-true, eqb-false}
 use Rattle.parts.specs.Numbers.{instructions}
-use Rattle.parts.specs.Pick.{pick, _or_, _isnt_}
-use Rattle.parts.specs.Told.{onTold, firstOf, refuseIf}
-use Rattle.parts.specs.declared.Refusal.the-variants.{Length, Kind}
+use Rattle.parts.specs.Pick.{pick, _isnt_}
+use Rattle.parts.specs.Told.{onTold, firstOf}
 use Rattle.parts.specs.declared.Told.{Told}
 use Rattle.parts.specs.declared.Told.the-variants.{Accepted, Refused}
 use Rattle.parts.proofs.Laws.{pick-eq, pick-ne}
-use Rattle.parts.proofs.Order.{first-all, row-passes, neither, not-isnt}
+use Rattle.parts.proofs.Order.{not-isnt}
 use Rattle.records.specs.Bytes.{AllBytes, lengthField, kindField, lengthTold, header}
-use Rattle.records.specs.Job.{jobKind, noJobLength, formOrder}
-use Rattle.records.proofs.Laws.{length-known}
+use Rattle.records.specs.Inner.{Formed}
+use Rattle.records.specs.Job.{forms, kindFor, jobOf, noJobLength, formOrder}
+use Rattle.records.proofs.Form.{length-in, in-length, kind-field, kind-byte, formed, formed-passes}
+use Rattle.records.proofs.Fours.{instrs-length}
 use Rattle.records.proofs.One.{header-is, drop-bytes}
 use Rattle.past.specs.Past.{Call, Begin, Step, Collect, Drop, ReadWord, ReadLock, Show, Park, AllRecords}
-use Rattle.calls.specs.Record.{callKind, lastCall, callField, workerField, lockField, lastField, cutShort, noCallLength, lockUnused, badHead, noCall, recordTold, callWith, jobIn, callIn, cappedOf, recordWith, callRecord}
+use Rattle.calls.specs.Record.{callKind, lastCall, callField, workerField, lockField, noCallLength, lockUnused, badHead, recordTold, callWith, jobIn, callIn, cappedOf, recordWith, callRecord}
 use Rattle.calls.proofs.Laws.{Holds, holds, other-record}
 use Rattle.recorded.specs.Recorded.{isWritten, inBytes}
 
@@ -66,23 +67,13 @@ module _ (call w l : ℕ) (code rest : List ℕ) (m : 8 + length code < 65536) w
   }
 
 -- a begin's bytes are a job record
-module _ (rec : List ℕ) (h : firstOf (formOrder rec) ≡ Accepted) where
-  rows : (k : ℕ) → getD (formOrder rec) k Accepted ≡ Accepted
-  rows = first-all (formOrder rec) h
+module _ (rec : List ℕ) (h : firstOf (formOrder forms rec) ≡ Accepted) where
+  form : Formed rec
+  form = formed rec h
 
-  form-length : (4 ≤ length rec) × (lengthField rec ≡ length rec)
-  form-length = length-known rec (lengthTold rec) refl (rows 0)
-
-  form-kind : kindField rec ≡ jobKind
-  form-kind = not-isnt (kindField rec) jobKind (row-passes _ Kind (rows 1))
-
-  form-size : noJobLength (length rec) ≡ false
-  form-size = row-passes _ Length (rows 2)
-
-  form-most : length rec ≤ 4 + 4 * instructions
-  form-most =
-      let n = neither ((length rec % 4) isnt 0) (ltb (length rec) 8 or ltb (4 + 4 * instructions) (length rec)) form-size in
-      ltb-false _ _ (neither (ltb (length rec) 8) (ltb (4 + 4 * instructions) (length rec)) (n .1) .1)
+  form-size : noJobLength 1 instructions (length rec) ≡ false
+  form-size =
+      ap (noJobLength 1 instructions) (form .size) ∙ in-length 1 instructions (length (jobOf rec)) (form .fewest) (form .most)
 
   code-length : length (drop 4 rec) ≡ length rec - 4
   code-length = length-drop 4 rec
@@ -93,32 +84,33 @@ module _ (rec : List ℕ) (h : firstOf (formOrder rec) ≡ Accepted) where
     begun = recordWith 0 w l (drop 4 rec) ++ rest
 
     short : 8 + length (drop 4 rec) < 65536
-    short = omega (arith, code-length, form-most)
+    short = omega (arith, code-length, form .size, form .most)
 
     begun-holds : Holds begun
     begun-holds =
-        let e : 8 + length (drop 4 rec) - 4 ≡ length rec = omega (arith, code-length, form-length .0) in
-        written-holds 0 w l (drop 4 rec) rest short (omega arith) refl (ap noJobLength e ∙ form-size)
+        let e : 8 + length (drop 4 rec) - 4 ≡ length rec = omega (arith, code-length, form .size) in
+        written-holds 0 w l (drop 4 rec) rest short (omega arith) refl (ap (noJobLength 1 instructions) e ∙ form-size)
 
     begun-job : jobIn begun ≡ rec
     unfolding jobIn recordWith
     begun-job =
         let n = written-length 0 w l (drop 4 rec) rest short in
-        let e : lengthField begun - 4 ≡ length rec = omega (arith, n, code-length, form-length .0) in
+        let e : lengthField begun - 4 ≡ length rec = omega (arith, n, code-length, form .size) in
         let k : lengthField begun - 8 ≡ length (drop 4 rec) = omega (arith, n) in
         let t : take (lengthField begun - 8) (drop 4 rec ++ rest) ≡ drop 4 rec =
         ap (λ (j : ℕ). take j (drop 4 rec ++ rest)) k ∙ take-append-seam (drop 4 rec) rest in
-        header-is rec (lengthField begun - 4) jobKind (take (lengthField begun - 8) (drop 4 rec ++ rest)) b (rows 0) form-kind
-        (omega arith) e t
+        let count : length (jobOf rec) ≡ (lengthField begun - 8) / 4 = omega (arith, n, code-length, form .size) in
+        header-is rec (lengthField begun - 4) (kindFor ((lengthField begun - 8) / 4)) (take (lengthField begun - 8) (drop 4 rec ++ rest)) b
+        (form .told) (form .kind ∙ ap kindFor count) (kind-byte ((lengthField begun - 8) / 4)) e t
 
 -- a call that has a record
-written-form : (w l : ℕ) (rec : List ℕ) → isWritten (Begin w l rec) ≡ true → firstOf (formOrder rec) ≡ Accepted
+written-form : (w l : ℕ) (rec : List ℕ) → isWritten (Begin w l rec) ≡ true → firstOf (formOrder forms rec) ≡ Accepted
 unfolding isWritten
-written-form w l rec h = go (firstOf (formOrder rec)) refl h
+written-form w l rec h = go (firstOf (formOrder forms rec)) refl h
   where
     go :
-        (t : Told) → firstOf (formOrder rec) ≡ t → onTold {A = Bool} t true (λ r. false) ≡ true →
-        firstOf (formOrder rec) ≡ Accepted
+        (t : Told) → firstOf (formOrder forms rec) ≡ t → onTold {A = Bool} t true (λ r. false) ≡ true →
+        firstOf (formOrder forms rec) ≡ Accepted
     go Accepted e k = e
     go (Refused r) e k = let z : _≡_ {A = ℕ} 0 1 = cc in absurd (omega arith)
 
@@ -204,7 +196,7 @@ module _ (s : List ℕ) (b : AllBytes s) (h : recordTold s ≡ Accepted) where
   no-code : (callField s ≡ 0 → ⊥) → codeIn ≡ []
   no-code k =
       let u : (lengthField s isnt 8) ≡ false =
-      pick-ne (callField s) 0 (lengthField s isnt 8) (noJobLength (lengthField s - 4)) _ k refl ∙ kept .size in
+      pick-ne (callField s) 0 (lengthField s isnt 8) (noJobLength 1 instructions (lengthField s - 4)) _ k refl ∙ kept .size in
       let e : lengthField s - 8 ≡ 0 = omega (arith, not-isnt (lengthField s) 8 u) in
       ap (λ (n : ℕ). take n (drop 8 s)) e
 
@@ -248,7 +240,8 @@ module _ (s : List ℕ) (b : AllBytes s) (h : recordTold s ≡ Accepted) where
   job-bytes : AllBytes (jobIn s)
   unfolding jobIn
   job-bytes =
-      header-bytes (lengthField s - 4) jobKind (take (lengthField s - 8) (drop 8 s)) (omega arith)
+      header-bytes (lengthField s - 4) (kindFor ((lengthField s - 8) / 4)) (take (lengthField s - 8) (drop 8 s))
+      (kind-byte ((lengthField s - 8) / 4))
       (take-bytes (lengthField s - 8) (drop 8 s) (drop-bytes 8 s b))
 
   job-length : length (jobIn s) ≡ lengthField s - 4
@@ -259,30 +252,38 @@ module _ (s : List ℕ) (b : AllBytes s) (h : recordTold s ≡ Accepted) where
   unfolding jobIn
   job-field = field-of (lengthField s - 4) (omega (arith, b 0, b 1)) ∙ sym job-length
 
-  job-kind : kindField (jobIn s) ≡ jobKind
+  job-kind : kindField (jobIn s) ≡ kindFor ((lengthField s - 8) / 4)
   unfolding jobIn
-  job-kind = refl
+  job-kind = kind-field (lengthField s - 4) (kindFor ((lengthField s - 8) / 4)) (take (lengthField s - 8) (drop 8 s))
 
-  job-form : callField s ≡ 0 → firstOf (formOrder (jobIn s)) ≡ Accepted
+  job-form : callField s ≡ 0 → firstOf (formOrder forms (jobIn s)) ≡ Accepted
   job-form z =
-      let k : noJobLength (length (jobIn s)) ≡ false =
-      ap noJobLength job-length ∙
-      pick-eq (callField s) 0 (noJobLength (lengthField s - 4)) (noJobLength (lengthField s - 4)) _ z refl ∙ holds s h .size in
+      let n = noJobLength 1 instructions (lengthField s - 4) in
+      let size = length-in 1 instructions (lengthField s - 4) (pick-eq (callField s) 0 n n _ z refl ∙ holds s h .size) in
+      let count : length (jobOf (jobIn s)) ≡ (lengthField s - 8) / 4 =
+      instrs-length (drop 4 (jobIn s)) ∙ omega (arith, length-drop 4 (jobIn s), job-length) in
+      let told : lengthTold (jobIn s) ≡ Accepted =
       simp (
         le-ltb (length (jobIn s)) 4 (omega (arith, job-length, holds s h .least)),
         eq-eqb (lengthField (jobIn s)) (length (jobIn s)) job-field,
-        job-kind,
-        k,
-      )
+      ) in
+      formed-passes (jobIn s)
+      (record {
+        told = told;
+        kind = job-kind ∙ ap kindFor (sym count);
+        fewest = omega (arith, count, size .1);
+        most = omega (arith, count, size .2);
+        size = omega (arith, count, job-length, size .0, size .1);
+      })
 
 -- a call of these numbers has a record, and its record is of bytes
 call-written :
-    (c w l : ℕ) (rec : List ℕ) → (c ≡ 0 → firstOf (formOrder rec) ≡ Accepted) → isWritten (callWith c w l rec) ≡ true
+    (c w l : ℕ) (rec : List ℕ) → (c ≡ 0 → firstOf (formOrder forms rec) ≡ Accepted) → isWritten (callWith c w l rec) ≡ true
 unfolding callWith isWritten
 call-written c w l rec f = go (eqb c 0) (eqb c 1) (eqb c 2) (λ e. f (eqb-true c 0 e))
   where
     go :
-        (p q r : Bool) → (p ≡ true → firstOf (formOrder rec) ≡ Accepted) →
+        (p q r : Bool) → (p ≡ true → firstOf (formOrder forms rec) ≡ Accepted) →
         isWritten (pick p (Begin w l rec) (pick q (Step w) (pick r (Collect w) (Drop w)))) ≡ true
     go true q r f = simp (f refl)
     go false true r f = refl

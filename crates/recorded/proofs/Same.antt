@@ -1,21 +1,21 @@
 -- A worker or lock above 255 is none, and neither is 255: the call gets the same answer. What the writer does to a buffer. A begin that
 -- has no record is refused.
-use Prim.Native.Nat.{ℕ, _+_, _-_, _%_, _≤_, _<_, min}
+use Prim.Native.Nat.{ℕ, _+_, _-_, _≤_}
 use mathlib.Core.Path.{_≡_, refl, _∙_, sym, ap}
 use mathlib.Core.Bool.{Bool, true, false}
-use mathlib.Core.List.{List, [], _∷_, _++_}
+use mathlib.Core.List.{List, [], _++_}
 use native.Mathlib.Omega.{arith}
 use lib.Dec.{eqb, leb}
 use lib.ListN.{length, take, drop}
 use borrow.Author.Tests.{le-leb, leb-true, leb-false, eqb-true, eqb-false}
 use Rattle.arrays.specs.Fresh.{guardsOf}
-use Rattle.parts.specs.Numbers.{workers, mostLocks}
+use Rattle.parts.specs.Numbers.{workers}
 use Rattle.parts.specs.Told.{onTold, _then_, refuseIf, firstOf}
 use Rattle.parts.specs.declared.Refusal.{Refusal}
 use Rattle.parts.specs.declared.Refusal.the-variants.{NoWorker, NoLock}
 use Rattle.parts.specs.declared.Told.{Told}
 use Rattle.parts.specs.declared.Told.the-variants.{Accepted, Refused}
-use Rattle.records.specs.Job.{formOrder, jobTold}
+use Rattle.records.specs.Job.{forms, formOrder, jobTold}
 use Rattle.records.proofs.Form.{job-stop}
 use Rattle.steps.specs.Worker.{beginByState}
 use Rattle.engine.specs.Calls.{writeOf, bufferOf, outcomeOf, roomOrder, beginTold, takenOf, beginOf, stepOf, collectOf, dropOf}
@@ -193,7 +193,7 @@ pub unwritten-refused :
     (e : Engine) (w l : ℕ) (rec : List ℕ) → isWritten (Begin w l rec) ≡ false →
     ((r : Refusal) × (beginOf e w l rec .told ≡ Refused r)) × (beginOf e w l rec .engine ≡ e)
 unfolding isWritten beginOf beginTold
-unwritten-refused e w l rec h = go (firstOf (formOrder rec)) refl h
+unwritten-refused e w l rec h = go (firstOf (formOrder forms rec)) refl h
   where
     rows :
         (a b c : Told) (s : Refusal) (later : Told) (x : Engine) →
@@ -205,7 +205,7 @@ unwritten-refused e w l rec h = go (firstOf (formOrder rec)) refl h
     rows Accepted Accepted Accepted s later x = ((s, refl), refl)
 
     go :
-        (t : Told) → firstOf (formOrder rec) ≡ t → onTold {A = Bool} t true (λ r. false) ≡ false →
+        (t : Told) → firstOf (formOrder forms rec) ≡ t → onTold {A = Bool} t true (λ r. false) ≡ false →
         ((r : Refusal) × (beginOf e w l rec .told ≡ Refused r)) × (beginOf e w l rec .engine ≡ e)
     go Accepted q k = let z : _≡_ {A = ℕ} 0 1 = cc in absurd (omega arith)
     go (Refused s) q k =

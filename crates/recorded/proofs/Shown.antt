@@ -8,7 +8,7 @@ use Rattle.parts.specs.Parts as parts
 use Rattle.parts.specs.Parts.{committedOf, holdsOf, isFirst, registerOf, withRegister, wornOf}
 use Rattle.parts.specs.Told.{answerNumber, refusalNumber, refusalPlace}
 use Rattle.records.specs.Bytes.{u32sOf}
-use Rattle.records.specs.Job.{badlyFormed, codeTold, instrTold, instrsOf, jobTold, straysAt}
+use Rattle.records.specs.Job.{badlyFormed, codeTold, instrTold, instrsOf, toldBy, straysAt}
 use Rattle.records.specs.Setup.{guardsTold, setupTold, turnsTold}
 use Rattle.sheets.specs.Sheets.{anyOf, inUseOf, lowestOf}
 use Rattle.steps.specs.Places.{helpedOf, spotOf}
@@ -27,7 +27,7 @@ use Rattle.recorded.specs.Recorded.{isWritten, recordsOf, linesAlong}
 use Rattle.recorded.specs.Shown.{sampleCalls, Shown}
 
 pub shown : Shown
-unfolding wordsFrom asksOf followsOf wordOf lay parts.grabOf parts.releaseOf parts.swapOf committedOf holdsOf isFirst worker.countedOf registerOf withRegister wornOf answerNumber refusalNumber refusalPlace u32sOf badlyFormed codeTold instrTold instrsOf jobTold straysAt guardsTold setupTold turnsTold anyOf inUseOf lowestOf helpedOf spotOf try.answerOf try.commitStep try.effectOf try.followStep try.grabStep try.lookAgainStep try.lookStep try.markStep try.readMarkStep try.readStep try.releaseStep try.swapStep worker.beganOf worker.beginByState worker.collectByState worker.collectedOf worker.dropByState worker.droppedOf worker.stepByState beginOf beginTold begunOf collectOf dropOf freshOf readLockOf readWordOf setupOf stepOf blankOf placesOf putAt viewAt after afterAll setupS jobA fresh AllRecords badHead recordTold callWith jobIn recordWith callRecord decimalFrom numberText pairText threeText toldOf callLine walkFrom linesText numberLine setupText printedOf isWritten recordsOf linesAlong sampleCalls
+unfolding wordsFrom asksOf followsOf wordOf lay parts.grabOf parts.releaseOf parts.swapOf committedOf holdsOf isFirst worker.countedOf registerOf withRegister wornOf answerNumber refusalNumber refusalPlace u32sOf badlyFormed codeTold instrTold instrsOf toldBy straysAt guardsTold setupTold turnsTold anyOf inUseOf lowestOf helpedOf spotOf try.answerOf try.commitStep try.effectOf try.followStep try.grabStep try.lookAgainStep try.lookStep try.markStep try.readMarkStep try.readStep try.releaseStep try.swapStep worker.beganOf worker.beginByState worker.collectByState worker.collectedOf worker.dropByState worker.droppedOf worker.stepByState beginOf beginTold begunOf collectOf dropOf freshOf readLockOf readWordOf setupOf stepOf blankOf placesOf putAt viewAt after afterAll setupS jobA fresh AllRecords badHead recordTold callWith jobIn recordWith callRecord decimalFrom numberText pairText threeText toldOf callLine walkFrom linesText numberLine setupText printedOf isWritten recordsOf linesAlong sampleCalls
 shown = record {
   request = refl;
   cutSetup = refl;
@@ -40,4 +40,5 @@ shown = record {
   six = refl;
   none = refl;
   many = refl;
+  kinds = ((refl, refl, refl), (refl, refl, refl), (refl, refl, refl), (refl, refl, refl));
 }

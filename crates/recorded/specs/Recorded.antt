@@ -4,7 +4,7 @@ use Names.*
 use Rattle.parts.specs.Pick.{pick}
 use Rattle.parts.specs.Told.{onTold, firstOf, refusalNumber}
 use Rattle.records.specs.Bytes.{AllBytes, lengthField}
-use Rattle.records.specs.Job.{formOrder}
+use Rattle.records.specs.Job.{forms, formOrder}
 use Rattle.engine.specs.Calls.{setupOf, beginOf}
 use Rattle.past.specs.Past.{Call, Begin, Step, Collect, Drop, ReadWord, ReadLock, Show, Park, after, afterAll, AllRecords}
 use Rattle.calls.specs.Record.{recordTold, callIn, cappedOf, callWith, callRecord, recordedOf, recordedIn}
@@ -12,7 +12,7 @@ use Rattle.files.specs.File.{callLine, walkFrom, walkedFrom, lineText, linesTex
 
 -- Which calls have a record: a begin whose bytes are a job record by 5 and 6, a step, a collect, a drop.
 unfoldable pub isWritten : Call → Bool
-isWritten (Begin w l rec) = onTold (firstOf (formOrder rec)) true (λ r. false)
+isWritten (Begin w l rec) = onTold (firstOf (formOrder forms rec)) true (λ r. false)
 isWritten (Step w) = true
 isWritten (Collect w) = true
 isWritten (Drop w) = true

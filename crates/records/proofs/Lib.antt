@@ -4,3 +4,4 @@ pub mod Exactly
 pub mod Form
 pub mod One
 pub mod Takes
+pub mod Old

@@ -1,5 +1,5 @@
 -- Records have one encoding each: an accepted record is the record of what it says, so that two that say the same are equal.
-use Prim.Native.Nat.{ℕ, zero, suc, _+_, _*_, _-_, _/_, _%_, _≤_, _<_}
+use Prim.Native.Nat.{ℕ, zero, suc, _+_, _*_, _/_, _%_, _≤_, _<_}
 use mathlib.Core.Path.{_≡_, refl, _∙_, sym, ap}
 use mathlib.Core.Bool.{false}
 use mathlib.Core.List.{List, [], _∷_, _++_, append-assoc}
@@ -8,18 +8,19 @@ use lib.Dec.{ltb}
 use lib.ListN.{length, getD, take, drop, length-drop, take-append-drop}
 use lib.Seq.{drop-cons, drop-drop, getD-drop, length-take-le}
 use borrow.Author.Tests.{ltb-false}
-use Rattle.parts.specs.Numbers.{instructions, mostLocks, mostWords}
-use Rattle.parts.specs.Pick.{_or_, _isnt_}
+use Rattle.parts.specs.Numbers.{mostLocks, mostWords}
+use Rattle.parts.specs.Pick.{_isnt_}
 use Rattle.parts.specs.Told.{refuseIf}
 use Rattle.parts.specs.declared.Instr.{Instr}
 use Rattle.parts.specs.declared.Refusal.the-variants.{Length, Kind, Range}
 use Rattle.parts.specs.declared.Told.the-variants.{Accepted}
 use Rattle.parts.proofs.Order.{first-all, row-passes, neither, not-isnt}
 use Rattle.records.specs.Bytes.{AllBytes, u32sBytes, kindField, lengthTold, header}
-use Rattle.records.specs.Job.{jobKind, jobOf, jobRecord, noJobLength, codeTold, jobTold}
+use Rattle.records.specs.Job.{kindFor, jobOf, jobRecord, jobTold}
 use Rattle.records.specs.Setup.{setupKind, locksField, wordsField, guardsField, valuesField, turnsField, setupLength, setupRecord, outside, guardsTold, turnsTold, setupTold}
 use Rattle.records.specs.Inner.{Sized}
-use Rattle.records.proofs.Fours.{instrs-length, u32s-length, code-of-instrs, bytes-of-u32s}
+use Rattle.records.proofs.Fours.{u32s-length, code-of-instrs, bytes-of-u32s}
+use Rattle.records.proofs.Form.{kind-byte, job-formed}
 use Rattle.records.proofs.Laws.{length-known}
 
 pub drop-bytes : (n : ℕ) (s : List ℕ) → AllBytes s → AllBytes (drop n s)
@@ -55,30 +56,13 @@ header-is rec n kind body h t k q e b =
     let w = four-first rec (f .0) in
     cc
 
-job-rows :
-    (rec : List ℕ) (lock : ℕ) (guards : List ℕ) →
-    jobTold rec lock guards ≡ Accepted →
-    (lengthTold rec ≡ Accepted) × (kindField rec ≡ jobKind) × (noJobLength (length rec) ≡ false)
-unfolding jobTold
-job-rows rec lock guards h =
-    let rows =
-    lengthTold rec ∷ refuseIf (kindField rec isnt jobKind) Kind ∷ refuseIf (noJobLength (length rec)) Length ∷
-    codeTold (jobOf rec) 0 lock guards ∷ [] in
-    let row = first-all rows h in
-    (row 0, not-isnt (kindField rec) jobKind (row-passes _ Kind (row 1)), row-passes _ Length (row 2))
-
 -- an accepted job record is the record of its job
 pub job-back :
     (rec : List ℕ) (lock : ℕ) (guards : List ℕ) → AllBytes rec → jobTold rec lock guards ≡ Accepted → jobRecord (jobOf rec) ≡ rec
 job-back rec lock guards b h =
-    let r = job-rows rec lock guards h in
-    let n = neither (length rec % 4 isnt 0) (ltb (length rec) 8 or ltb (4 + 4 * instructions) (length rec)) (r .2) in
-    let m : length rec % 4 ≡ 0 = not-isnt (length rec % 4) 0 (n .0) in
-    let l : 8 ≤ length rec = ltb-false (length rec) 8 (neither _ (ltb (4 + 4 * instructions) (length rec)) (n .1) .0) in
-    let d : length (drop 4 rec) ≡ length rec - 4 = length-drop 4 rec in
-    let i : length (jobOf rec) ≡ length (drop 4 rec) / 4 = instrs-length (drop 4 rec) in
-    header-is rec (4 + 4 * length (jobOf rec)) jobKind _ b (r .0) (r .1) (omega arith) (omega arith)
-    (code-of-instrs (drop 4 rec) (drop-bytes 4 rec b) (omega arith))
+    let f = job-formed rec lock guards h in
+    header-is rec (4 + 4 * length (jobOf rec)) (kindFor (length (jobOf rec))) _ b (f .told) (f .kind) (kind-byte (length (jobOf rec)))
+    (sym (f .size)) (code-of-instrs (drop 4 rec) (drop-bytes 4 rec b) (omega (arith, length-drop 4 rec, f .size)))
 
 -- two accepted job records of one job are equal, whatever the locks and the guards
 pub job-one :

@@ -1,7 +1,7 @@
 -- What is written is taken: the setup record of fields that are in range is accepted, and has those fields; a job record is told
 -- what its instructions are told, and has that job.
-use Prim.Native.Nat.{ℕ, zero, suc, _+_, _*_, _/_, _%_, _^_, _≤_, _<_}
-use mathlib.Core.Path.{_≡_, refl, _∙_, sym, ap}
+use Prim.Native.Nat.{ℕ, zero, suc, _+_, _*_, _/_, _^_, _≤_, _<_}
+use mathlib.Core.Path.{_≡_, refl, _∙_, sym, ap, subst}
 use mathlib.Core.List.{List, [], _∷_, _++_, append-assoc}
 use native.Mathlib.Omega.{arith}
 use lib.Dec.{leb, ltb}
@@ -10,15 +10,16 @@ use lib.Seq.{drop-drop, take-at, drop-at}
 use borrow.Author.Tests.{lt-leb, leb-false, le-ltb, ltb-false}
 use Rattle.parts.specs.Numbers.{instructions, mostLocks, mostWords, lastTurn}
 use Rattle.parts.specs.declared.Instr.{Instr}
-use Rattle.parts.specs.Told.{refuseIf}
+use Rattle.parts.specs.Told.{refuseIf, firstOf}
 use Rattle.parts.specs.declared.Refusal.the-variants.{Range}
 use Rattle.parts.specs.declared.Told.the-variants.{Accepted}
 use Rattle.parts.proofs.Laws.{laws, order}
 use Rattle.parts.proofs.Order.{both-pass, row-passes}
-use Rattle.records.specs.Bytes.{u32sOf, u32sBytes, lengthField, kindField, lengthTold}
-use Rattle.records.specs.Job.{jobKind, jobOf, jobRecord, codeTold, jobTold}
+use Rattle.records.specs.Bytes.{u32sOf, u32sBytes, lengthField, lengthTold}
+use Rattle.records.specs.Job.{forms, kindFor, codeBytes, jobOf, jobRecord, formOrder, codeTold, jobTold}
 use Rattle.records.specs.Setup.{locksField, wordsField, guardsField, valuesField, turnsField, setupLength, setupRecord, guardsTold, turnsTold, setupTold}
 use Rattle.records.specs.Inner.{Sized}
+use Rattle.records.proofs.Form.{kind-field, formed-passes, job-pass}
 use Rattle.records.proofs.Fours.{instrs-of-code, code-length, u32s-of-bytes, bytes-length}
 
 -- every guard is a lock, every turn at most the last
@@ -138,20 +139,7 @@ setup-takes guards values turns l w same below fits last =
     let ts : turnsTold (turnsField rec) (6 + 5 * length guards) ≡ Accepted = simp t (turns-all turns _ last) in
     (sized-setup rec (record { told = told; kind = refl; locks = l; words = w; size = size; guards = gs; turns = ts }), g, v, t)
 
-job-passes :
-    (rec : List ℕ) (lock : ℕ) (guards : List ℕ) →
-    lengthField rec ≡ length rec →
-    kindField rec ≡ jobKind →
-    length rec % 4 ≡ 0 →
-    8 ≤ length rec →
-    length rec ≤ 4 + 4 * instructions →
-    codeTold (jobOf rec) 0 lock guards ≡ jobTold rec lock guards
-unfolding jobTold
-job-passes rec lock guards f k m l u =
-    let four : 4 ≤ length rec = omega arith in
-    search (laws, order) depth 12
-
--- of the record of 1 to 32 instructions is told what is told of the instructions
+-- of the record of 1 to 64 instructions is told what is told of the instructions
 pub job-takes :
     (is : List Instr) (lock : ℕ) (guards : List ℕ) →
     (1 ≤ length is) × (length is ≤ instructions) →
@@ -160,8 +148,17 @@ job-takes is lock guards n =
     let rec = jobRecord is in
     let job : jobOf rec ≡ is = instrs-of-code is in
     let size : length rec ≡ 4 + 4 * length is = omega (arith, code-length is) in
-    let low : (4 + 4 * length is) / 256 < 256 = omega arith in
+    let byte : (4 + 4 * length is) / 256 < 256 = omega arith in
     let field : lengthField rec ≡ length rec = omega arith in
-    let passes : codeTold (jobOf rec) 0 lock guards ≡ jobTold rec lock guards =
-    job-passes rec lock guards field refl (omega arith) (omega arith) (omega arith) in
-    (sym passes ∙ ap (λ (l : List Instr). codeTold l 0 lock guards) job, job)
+    let same : length is ≡ length (jobOf rec) = ap length (sym job) in
+    let low : lengthTold rec ≡ Accepted = sym (length-passes rec (omega arith) field) in
+    let passes : firstOf (formOrder forms rec) ≡ Accepted =
+    formed-passes rec
+    (record {
+      told = low;
+      kind = kind-field (4 + 4 * length is) (kindFor (length is)) (codeBytes is) ∙ ap kindFor same;
+      fewest = subst (λ (n : ℕ). 1 ≤ n) same (n .0);
+      most = subst (λ (n : ℕ). n ≤ instructions) same (n .1);
+      size = size ∙ ap (λ (n : ℕ). 4 + 4 * n) same;
+    }) in
+    (sym (job-pass rec lock guards Accepted (codeTold is 0 lock guards) (sym passes) refl (ap (λ (l : List Instr). codeTold l 0 lock guards) (sym job))), job)

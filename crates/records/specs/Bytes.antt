@@ -43,7 +43,7 @@ lengthField rec = u16Of (getD rec 0 0) (getD rec 1 0)
 abbrev pub kindField : List ℕ → ℕ
 kindField rec = u16Of (getD rec 2 0) (getD rec 3 0)
 
--- the four bytes before a record's body
+-- a record: its length, its kind, which is below 256, and its body
 abbrev pub header : ℕ → ℕ → List ℕ → List ℕ
 header size kind body = size % 256 ∷ size / 256 % 256 ∷ kind ∷ 0 ∷ body
 

@@ -1,4 +1,5 @@
--- "Kind 1, job. 4 bytes for each instruction (op, a, b, c); length 4 + 4n, n from 1 to 32."
+-- "Kind 1, job. 4 bytes for each instruction (op, a, b, c); length 4 + 4n, n from 1 to 32." Request 04: "kind 1 keeps 1 to 32
+-- instructions, a new kind 4 carries 33 to 64, length 4 + 4n."
 mod Names
 use Names.*
 use Rattle.parts.specs.Numbers.{instructions, lastRegister}
@@ -6,8 +7,28 @@ use Rattle.parts.specs.Pick.{pick, _or_, _isnt_}
 use Rattle.parts.specs.Told.{refuseIf, _then_, firstOf}
 use Rattle.records.specs.Bytes.{kindField, lengthTold, header}
 
-abbrev pub jobKind : ℕ
-jobKind = 1
+-- a kind of job record, and from how many to how many instructions it carries
+pub record Form : Type 0 where
+  pub kind : ℕ
+  pub fewest : ℕ
+  pub most : ℕ
+
+abbrev pub short : Form
+short = record { kind = 1; fewest = 1; most = 32 }
+
+abbrev pub long : Form
+long = record { kind = 4; fewest = short .most + 1; most = instructions }
+
+-- what a writer takes: ours, and the one of document 01, which knows kind 1 alone
+abbrev pub forms : List Form
+forms = short ∷ long ∷ []
+
+abbrev pub oldForms : List Form
+oldForms = short ∷ []
+
+-- the kind "by the count"
+abbrev pub kindFor : ℕ → ℕ
+kindFor n = pick (ltb (short .most) n) (long .kind) (short .kind)
 
 -- the instructions of a list of bytes, by fours
 unfoldable pub instrsOf : List ℕ → List Instr
@@ -31,7 +52,7 @@ abbrev pub jobOf : List ℕ → List Instr
 jobOf rec = instrsOf (drop 4 rec)
 
 abbrev pub jobRecord : List Instr → List ℕ
-jobRecord is = header (4 + 4 * length is) jobKind (codeBytes is)
+jobRecord is = header (4 + 4 * length is) (kindFor (length is)) (codeBytes is)
 
 -- "Register fields are 0 to 3."
 abbrev pub noRegister : ℕ → Bool
@@ -85,18 +106,32 @@ codeTold [] place lock guards = Accepted
 codeTold (i ∷ is) place lock guards =
     instrTold i place (length is) lock guards then codeTold is (place + 1) lock guards
 
--- no 4 + 4n with n from 1 to the most instructions
-abbrev pub noJobLength : ℕ → Bool
-noJobLength n = (n % 4) isnt 0 or ltb n 8 or ltb (4 + 4 * instructions) n
+-- no 4 + 4n with n from `fewest` to `most`
+abbrev pub noJobLength : ℕ → ℕ → ℕ → Bool
+noJobLength fewest most bytes = (bytes % 4) isnt 0 or ltb bytes (4 + 4 * fewest) or ltb (4 + 4 * most) bytes
+
+-- "6 for a kind neither 1 nor 4": of the kinds that a writer takes
+abbrev pub noJobKind : List Form → ℕ → Bool
+noJobKind [] kind = true
+noJobKind (f ∷ fs) kind = pick (eqb kind (f .kind)) false (noJobKind fs kind)
+
+-- "not 4 + 4n", or "a count outside the kind's own range"; of another kind nothing, since 6 comes before
+abbrev pub outsideKind : List Form → ℕ → ℕ → Bool
+outsideKind [] kind bytes = false
+outsideKind (f ∷ fs) kind bytes = pick (eqb kind (f .kind)) (noJobLength (f .fewest) (f .most) bytes) (outsideKind fs kind bytes)
 
 -- "5 (fewer than 4 bytes, or length field other than the slice's length), 6, 5 (not 4 + 4n)": is it a job record at all?
-abbrev pub formOrder : List ℕ → List Told
-formOrder rec =
+abbrev pub formOrder : List Form → List ℕ → List Told
+formOrder takes rec =
     lengthTold rec ∷
-    refuseIf (kindField rec isnt jobKind) Kind ∷
-    refuseIf (noJobLength (length rec)) Length ∷
+    refuseIf (noJobKind takes (kindField rec)) Kind ∷
+    refuseIf (outsideKind takes (kindField rec) (length rec)) Length ∷
     []
 
--- "then the lowest faulty instruction"
-unfoldable pub jobTold : List ℕ → ℕ → List ℕ → Told
-jobTold rec lock guards = firstOf (formOrder rec ++ (codeTold (jobOf rec) 0 lock guards ∷ []))
+-- "then the lowest faulty instruction": what a writer tells that takes these forms
+unfoldable pub toldBy : List Form → List ℕ → ℕ → List ℕ → Told
+toldBy takes rec lock guards = firstOf (formOrder takes rec ++ (codeTold (jobOf rec) 0 lock guards ∷ []))
+
+-- and ours
+abbrev pub jobTold : List ℕ → ℕ → List ℕ → Told
+jobTold rec lock guards = toldBy forms rec lock guards

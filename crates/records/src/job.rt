@@ -3,13 +3,20 @@ ghost use mathlib.Core.Path.{_≡_};
 ghost use Prim.Native.Nat.{_≤_};
 ghost use lib.Dec.{leb, ltb};
 ghost use lib.ListN.{length};
+ghost use Rattle.parts.specs.Numbers.{instructions};
 ghost use Rattle.parts.specs.Pick.{_or_};
 ghost use Rattle.parts.specs.Told.{firstOf};
-ghost use Rattle.records.specs.Job.{firstInstr, instrsOf, jobOf, noRegister, badlyFormed, endsOtherwise, strays, straysAt, instrTold, firstTold, codeTold, noJobLength, formOrder, jobTold};
+ghost use Rattle.records.specs.Job.{firstInstr, instrsOf, jobOf, noRegister, badlyFormed, endsOtherwise, strays, straysAt, instrTold, firstTold, codeTold, forms, kindFor, noJobLength, noJobKind, outsideKind, formOrder, jobTold};
 use parts::INSTRUCTIONS;
 use parts::Instr;
 use parts::Refusal;
 use parts::Told;
+
+// The most instructions in a record of kind 1; kind 4 carries more.
+const SHORT: usize = 32;
+
+// The longest job record.
+pub const JOB_BYTES: usize = 4 + 4 * INSTRUCTIONS;
 
 // "Register fields are 0 to 3."
 fn no_register(r: u8) -> bool
@@ -204,17 +211,54 @@ pub fn code_told(code: &[u8], lock: u8, guards: &[u8]) -> Told
     Told::Accepted
 }
 
-// No 4 + 4n with n from 1 to the most instructions.
-pub fn no_job_length(n: usize) -> bool
-    ensures { λ r. ⌜ r ≡ noJobLength n ⌝ }
+// The kind of a record with n instructions.
+pub fn kind_for(n: usize) -> u8
+    ensures { λ r. ⌜ r ≡ kindFor n ⌝ }
 {
-    if n % 4 != 0 {
+    if SHORT < n {
+        return 4;
+    }
+    1
+}
+
+// No 4 + 4n with n from `fewest` to `most`.
+pub fn no_job_length(fewest: usize, most: usize, bytes: usize) -> bool
+    requires { ⌜ (fewest ≤ instructions) × (most ≤ instructions) ⌝ }
+    ensures { λ r. ⌜ r ≡ noJobLength fewest most bytes ⌝ }
+{
+    if bytes % 4 != 0 {
         return true;
     }
-    if n < 8 {
+    if bytes < 4 + 4 * fewest {
         return true;
     }
-    4 + 4 * INSTRUCTIONS < n
+    4 + 4 * most < bytes
+}
+
+// "6 for a kind neither 1 nor 4".
+fn no_job_kind(kind: usize) -> bool
+    ensures { λ r. ⌜ r ≡ noJobKind forms kind ⌝ }
+{
+    if kind == 1 {
+        return false;
+    }
+    if kind == 4 {
+        return false;
+    }
+    true
+}
+
+// "5 for a count outside the kind's own range", or for a length that is no 4 + 4n.
+fn outside_kind(kind: usize, bytes: usize) -> bool
+    ensures { λ r. ⌜ r ≡ outsideKind forms kind bytes ⌝ }
+{
+    if kind == 1 {
+        return no_job_length(1, SHORT, bytes);
+    }
+    if kind == 4 {
+        return no_job_length(SHORT + 1, INSTRUCTIONS, bytes);
+    }
+    false
 }
 
 // The instructions of a job record.
@@ -227,7 +271,7 @@ fn body_told(rec: &[u8], lock: u8, guards: &[u8]) -> Told
 
 // Is it a job record at all? "5 (fewer than 4 bytes, or length field other than the slice's length), 6, 5 (not 4 + 4n)".
 pub fn form_told(rec: &[u8]) -> Told
-    ensures { λ r. ⌜ r ≡ firstOf (formOrder (now (rec .entry))) ⌝ }
+    ensures { λ r. ⌜ r ≡ firstOf (formOrder forms (now (rec .entry))) ⌝ }
 {
     let told = crate::length_told(rec);
     match told {
@@ -235,10 +279,10 @@ pub fn form_told(rec: &[u8]) -> Told
         Told::Accepted => {}
     }
     let kind = crate::kind_of(rec);
-    if kind != 1 {
+    if no_job_kind(kind) {
         return Told::Refused(Refusal::Kind);
     }
-    if no_job_length(rec.len()) {
+    if outside_kind(kind, rec.len()) {
         return Told::Refused(Refusal::Length);
     }
     Told::Accepted

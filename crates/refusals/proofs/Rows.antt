@@ -16,7 +16,7 @@ use Rattle.parts.specs.declared.Refusal.the-variants.{WorkerUnderWay, NotCollec
 use Rattle.parts.specs.declared.Told.{Told}
 use Rattle.parts.specs.declared.Told.the-variants.{Accepted, Refused}
 use Rattle.parts.proofs.Order.{first-cons}
-use Rattle.records.specs.Job.{jobOf, jobTold, codeTold, instrTold}
+use Rattle.records.specs.Job.{jobOf, toldBy, codeTold, instrTold}
 use Rattle.records.specs.Setup.{guardsField, locksField, turnsField, wordsField, setupTold, guardsTold, turnsTold}
 use Rattle.steps.specs.Worker as worker
 use Rattle.steps.specs.Worker.{onState}
@@ -102,7 +102,7 @@ drop-state (Finished x) = refl
 
 -- each call's order is that of its rows
 pub begin-rows : (e : Engine) (w l : ℕ) (rec : List ℕ) → beginTold e w l rec ≡ firstOf (beginRows e w l rec)
-unfolding beginTold jobTold worker.beginByState
+unfolding beginTold toldBy worker.beginByState
 begin-rows e w l rec =
     simp (
       begin-state (stateOf e w),

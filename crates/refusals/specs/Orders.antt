@@ -4,7 +4,7 @@ mod Names
 use Names.*
 use Rattle.arrays.specs.Fresh.{guardsOf}
 use Rattle.records.specs.Bytes.{kindField, wrongLength}
-use Rattle.records.specs.Job.{jobKind, jobOf, badlyFormed, endsOtherwise, straysAt, noJobLength}
+use Rattle.records.specs.Job.{forms, jobOf, badlyFormed, endsOtherwise, straysAt, noJobKind, outsideKind}
 use Rattle.records.specs.Setup.{setupKind, locksField, wordsField, guardsField, turnsField, setupLength, outside}
 use Rattle.steps.specs.Worker.{onState}
 use Rattle.engine.specs.Calls.{setupOf, beginOf, stepOf, collectOf, dropOf, readWordOf, readLockOf, isFree, showOf, shownOf, parkOf, parkedOf}
@@ -46,10 +46,10 @@ beginRows e w l rec =
     refuseIf (leb (lockCount e) l) NoLock ∷
     -- 5: "record length wrong"
     refuseIf (wrongLength rec) Length ∷
-    -- 6: "kind is not the one this call takes"
-    refuseIf (kindField rec isnt jobKind) Kind ∷
-    -- 5: "not 4 + 4n"
-    refuseIf (noJobLength (length rec)) Length ∷
+    -- 6: "kind is not the one this call takes"; request 04: "6 for a kind neither 1 nor 4"
+    refuseIf (noJobKind forms (kindField rec)) Kind ∷
+    -- 5: "not 4 + 4n"; request 04: "5 for a count outside the kind's own range"
+    refuseIf (outsideKind forms (kindField rec) (length rec)) Length ∷
     -- 7 and 8, each at "its place"
     codeRows (jobOf rec) 0 l (guardsOf (wordsOf e)) ++
     -- 9: "begin: the lock is free with turn 67,108,864"

@@ -7,7 +7,7 @@ use Rattle.parts.specs.Parts as parts
 use Rattle.parts.specs.Parts.{committedOf, holdsOf, isFirst, registerOf, withRegister, wornOf}
 use Rattle.parts.specs.Told.{answerNumber, refusalNumber, refusalPlace}
 use Rattle.records.specs.Bytes.{u32sOf}
-use Rattle.records.specs.Job.{badlyFormed, codeTold, instrTold, instrsOf, jobTold, straysAt}
+use Rattle.records.specs.Job.{codeBytes, badlyFormed, codeTold, instrTold, instrsOf, toldBy, straysAt}
 use Rattle.records.specs.Setup.{guardsTold, setupTold, turnsTold}
 use Rattle.sheets.specs.Sheets.{anyOf, inUseOf, lowestOf}
 use Rattle.steps.specs.Places.{helpedOf, spotOf}
@@ -17,10 +17,10 @@ use Rattle.engine.specs.Calls.{beginOf, beginTold, begunOf, collectOf, dropOf, 
 use Rattle.engine.specs.State.{blankOf}
 use Rattle.engine.specs.Step.{placesOf, putAt, viewAt}
 use Rattle.past.specs.Past.{after, afterAll}
-use Rattle.tables.specs.Table.{setupS, jobA, jobSkipping, fresh, callsC, callsD, callsE, callsG, callsH, Table}
+use Rattle.tables.specs.Table.{setupS, jobA, jobSkipping, jobLong, callsLong, fresh, callsC, callsD, callsE, callsG, callsH, Table}
 
 pub table : Table
-unfolding wordsFrom asksOf followsOf wordOf lay parts.grabOf parts.releaseOf parts.swapOf committedOf holdsOf isFirst worker.countedOf registerOf withRegister wornOf answerNumber refusalNumber refusalPlace u32sOf badlyFormed codeTold instrTold instrsOf jobTold straysAt guardsTold setupTold turnsTold anyOf inUseOf lowestOf helpedOf spotOf try.answerOf try.commitStep try.effectOf try.followStep try.grabStep try.lookAgainStep try.lookStep try.markStep try.readMarkStep try.readStep try.releaseStep try.swapStep worker.beganOf worker.beginByState worker.collectByState worker.collectedOf worker.dropByState worker.droppedOf worker.stepByState beginOf beginTold begunOf collectOf dropOf freshOf readLockOf readWordOf setupOf stepOf blankOf placesOf putAt viewAt after afterAll setupS jobA jobSkipping fresh callsC callsD callsE callsG callsH
+unfolding wordsFrom asksOf followsOf wordOf lay parts.grabOf parts.releaseOf parts.swapOf committedOf holdsOf isFirst worker.countedOf registerOf withRegister wornOf answerNumber refusalNumber refusalPlace u32sOf badlyFormed codeTold instrTold instrsOf toldBy straysAt guardsTold setupTold turnsTold anyOf inUseOf lowestOf helpedOf spotOf try.answerOf try.commitStep try.effectOf try.followStep try.grabStep try.lookAgainStep try.lookStep try.markStep try.readMarkStep try.readStep try.releaseStep try.swapStep worker.beganOf worker.beginByState worker.collectByState worker.collectedOf worker.dropByState worker.droppedOf worker.stepByState beginOf beginTold begunOf collectOf dropOf freshOf readLockOf readWordOf setupOf stepOf blankOf placesOf putAt viewAt after afterAll setupS jobA jobSkipping codeBytes jobLong callsLong fresh callsC callsD callsE callsG callsH
 table =
     record {
       s = refl;
@@ -40,4 +40,25 @@ table =
       );
       i = record { told = (refl, refl); state = refl };
       j = record { told = (refl, refl); state = refl };
+      k = (
+        record { told = (refl, refl); state = refl },
+        refl,
+        refl,
+        record { told = (refl, refl); state = refl },
+        record { told = (refl, refl); state = refl },
+        record { told = (refl, refl); state = refl },
+        record { told = (refl, refl); state = refl },
+        record { told = (refl, refl); state = refl },
+        record { told = (refl, refl); state = refl },
+        refl,
+        refl,
+        record { told = (refl, refl); state = refl },
+        record { told = (refl, refl); state = refl },
+        record { told = (refl, refl); state = refl },
+        refl,
+        refl,
+      );
+      bounds = (refl, refl, refl);
+      longestTry = record { before = refl; told = (refl, refl, refl); left = record { word = refl; lock = refl } };
+      longestHelp = record { before = refl; told = (refl, refl, refl); left = record { word = refl; lock = refl } };
     }

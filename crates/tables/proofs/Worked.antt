@@ -7,7 +7,7 @@ use Rattle.parts.specs.Lay.{lay}
 use Rattle.parts.specs.Parts as parts
 use Rattle.parts.specs.Parts.{committedOf, holdsOf, isFirst, registerOf, withRegister, wornOf}
 use Rattle.records.specs.Bytes.{u32sOf, u32sBytes}
-use Rattle.records.specs.Job.{badlyFormed, codeTold, instrTold, instrsOf, jobTold, straysAt}
+use Rattle.records.specs.Job.{badlyFormed, codeTold, instrTold, instrsOf, toldBy, straysAt}
 use Rattle.records.specs.Setup.{guardsTold, setupTold, turnsTold}
 use Rattle.sheets.specs.Sheets.{anyOf, inUseOf, lowestOf}
 use Rattle.steps.specs.Places.{helpedOf, spotOf}
@@ -21,7 +21,7 @@ use Rattle.past.specs.Past.{after, afterAll}
 use Rattle.tables.specs.Worked.{setupV, jobMoves, jobSums, jobCams, jobSkips, freshV, Worked}
 
 pub worked : Worked
-unfolding wordsFrom asksOf followsOf wordOf lay parts.grabOf parts.releaseOf parts.swapOf committedOf holdsOf isFirst worker.countedOf registerOf withRegister wornOf u32sOf u32sBytes heldTold aloneFrom badlyFormed codeTold instrTold instrsOf jobTold straysAt guardsTold setupTold turnsTold anyOf inUseOf lowestOf helpedOf spotOf try.answerOf try.commitStep try.effectOf try.followStep try.grabStep try.lookAgainStep try.lookStep try.markStep try.readMarkStep try.readStep try.releaseStep try.swapStep worker.beganOf worker.beginByState worker.collectByState worker.collectedOf worker.stepByState beginOf beginTold begunOf collectOf freshOf parkOf parkTold parkedOf readLockOf readWordOf setupOf stepOf blankOf placesOf putAt viewAt after afterAll setupV jobMoves jobSums jobCams jobSkips freshV
+unfolding wordsFrom asksOf followsOf wordOf lay parts.grabOf parts.releaseOf parts.swapOf committedOf holdsOf isFirst worker.countedOf registerOf withRegister wornOf u32sOf u32sBytes heldTold aloneFrom badlyFormed codeTold instrTold instrsOf toldBy straysAt guardsTold setupTold turnsTold anyOf inUseOf lowestOf helpedOf spotOf try.answerOf try.commitStep try.effectOf try.followStep try.grabStep try.lookAgainStep try.lookStep try.markStep try.readMarkStep try.readStep try.releaseStep try.swapStep worker.beganOf worker.beginByState worker.collectByState worker.collectedOf worker.stepByState beginOf beginTold begunOf collectOf freshOf parkOf parkTold parkedOf readLockOf readWordOf setupOf stepOf blankOf placesOf putAt viewAt after afterAll setupV jobMoves jobSums jobCams jobSkips freshV
 worked =
     record {
       setup = refl;

@@ -1,7 +1,11 @@
--- Document 01's example table: setup S, jobs A and B as bytes, and what each starred row says of the real calls.
+-- Document 01's example table: setup S, jobs A and B as bytes, and what each starred row and row k say of the real calls; and request
+-- 04's longest tries.
 mod Names
 use Names.*
+use Rattle.parts.specs.Numbers.{instructions, longestRun, helpSteps, trySteps}
 use Rattle.parts.specs.Told.{answerNumber}
+use Rattle.records.specs.Bytes.{header}
+use Rattle.records.specs.Job.{codeBytes, oldForms, toldBy}
 use Rattle.engine.specs.Calls.{setupOf, beginOf, collectOf, readWordOf, readLockOf}
 use Rattle.past.specs.Past.{Call, Begin, Step, Drop, afterAll, steps}
 use Rattle.refusals.specs.Orders.{Refusing}
@@ -96,7 +100,24 @@ callsG = Begin 0 0 jobA ∷ Begin 1 0 jobB ∷ Step 0 ∷ Step 1 ∷ Step 0 ∷ 
 unfoldable pub callsH : List Call
 callsH = Begin 0 0 jobA ∷ steps 2 0 ++ (Begin 1 0 jobB ∷ [])
 
--- the starred rows, each under its two columns; and setup S is accepted. In c and f the drop leaves worker 0
+-- a job record of this kind with n halts; begin on S takes it, or refuses it with 5
+abbrev pub halts : ℕ → ℕ → List ℕ
+halts kind n = header (4 + 4 * n) kind (replicate (4 * n) 0)
+
+abbrev pub Taken : ℕ → ℕ → Type 0
+Taken kind n = beginOf fresh 0 0 (halts kind n) .told ≡ Accepted
+
+abbrev pub Refused5 : ℕ → ℕ → Type 0
+Refused5 kind n = Refusing fresh (beginOf fresh 0 0 (halts kind n)) 5 0
+
+-- 63 stores to word 0, and a halt
+unfoldable pub jobLong : List ℕ
+jobLong = header 260 4 (codeBytes (replicate 63 (record { op = 3; a = 0; b = 0; c = 0 }) ++ (record { op = 0; a = 0; b = 0; c = 0 } ∷ [])))
+
+unfoldable pub callsLong : List Call
+callsLong = Begin 0 0 jobLong ∷ steps 98 0 ++ (Drop 0 ∷ Begin 1 0 jobB ∷ [])
+
+-- the starred rows and those of request 04, each under its two columns; and setup S is accepted. In c and f the drop leaves worker 0
 -- idle; in e and h worker 1's end comes first.
 pub record Table : Type 0 where
   pub s : setupOf setupS .told ≡ Accepted
@@ -127,3 +148,16 @@ pub record Table : Type 0 where
   pub i : Refusing fresh (beginOf fresh 0 0 (jobSkipping 2)) 7 2
   -- "A on lock 1": "refused 8, place 0"
   pub j : Refusing fresh (beginOf fresh 0 1 jobA) 8 0
+  -- "32 instructions (132 bytes); 33; none": "accepted; 5; 5"; request 04: kind 1 keeps 1 to 32, kind 4 carries 33 to 64. 6 comes before
+  -- 5 for the count, and after 5 for the length field. The old writer takes the first of them and refuses the other.
+  pub k :
+      Refused5 1 0 × Taken 1 1 × Taken 1 32 × Refused5 1 33 × Refused5 1 64 × Refused5 1 65 ×
+      Refused5 4 0 × Refused5 4 1 × Refused5 4 32 × Taken 4 33 × Taken 4 64 × Refused5 4 65 ×
+      Refusing fresh (beginOf fresh 0 0 (halts 2 65)) 6 0 ×
+      Refusing fresh (beginOf fresh 0 0 (0x8C ∷ drop 1 (halts 4 33))) 5 0 ×
+      (toldBy oldForms (halts 1 32) 0 [] ≡ Accepted) × (toldBy oldForms (halts 4 33) 0 [] ≡ Refused Kind)
+  -- "The longest run becomes 63 × 3 + 1 = 190, a helping try 193, any try 196"; the two are reached, by 63 stores alone, and by those cut
+  -- off in the middle and helped to the end
+  pub bounds : (longestRun instructions ≡ 190) × (helpSteps instructions ≡ 193) × (trySteps instructions ≡ 196)
+  pub longestTry : Ends (Begin 0 0 jobLong ∷ []) 0 (record { more = 196; answer = ranNo; steps = 196; filled = 63; value = 0; count = 63; turn = 1 })
+  pub longestHelp : Ends callsLong 1 (record { more = 193; answer = notTaken; steps = 193; filled = 32; value = 0; count = 63; turn = 1 })

@@ -16,7 +16,7 @@ use Rattle.parts.specs.Parts as parts
 use Rattle.parts.specs.Parts.{committedOf, holdsOf, isFirst, registerOf, withRegister, wornOf}
 use Rattle.parts.specs.Told.{refusalNumber, refusalPlace}
 use Rattle.records.specs.Bytes.{u32sOf}
-use Rattle.records.specs.Job.{badlyFormed, codeTold, instrTold, instrsOf, jobTold, straysAt}
+use Rattle.records.specs.Job.{badlyFormed, codeTold, instrTold, instrsOf, toldBy, straysAt}
 use Rattle.records.specs.Setup.{guardsTold, setupTold, turnsTold}
 use Rattle.sheets.specs.Sheets.{anyOf, inUseOf, lowestOf}
 use Rattle.steps.specs.Places.{helpedOf, spotOf}
@@ -40,5 +40,5 @@ pub record Met : Type 0 where
   pub parked : parkOf (stateAfter past) 29 ≡ WriteTold.Wrote 29
 
 pub premises-met : Met
-unfolding wordsFrom asksOf followsOf wordOf lay parts.grabOf parts.releaseOf parts.swapOf committedOf holdsOf isFirst worker.countedOf registerOf withRegister wornOf refusalNumber refusalPlace u32sOf badlyFormed codeTold instrTold instrsOf jobTold straysAt guardsTold setupTold turnsTold anyOf inUseOf lowestOf helpedOf spotOf try.answerOf try.commitStep try.effectOf try.followStep try.grabStep try.lookAgainStep try.lookStep try.markStep try.readMarkStep try.readStep try.releaseStep try.swapStep worker.beganOf worker.beginByState worker.collectByState worker.collectedOf worker.dropByState worker.droppedOf worker.stepByState beginOf beginTold begunOf collectOf dropOf freshOf readLockOf readWordOf setupOf stepOf blankOf placesOf putAt viewAt after afterAll setupS jobA jobSkipping fresh parkOf parkTold heldTold u32sBytes UsedAlong AllRecords past
+unfolding wordsFrom asksOf followsOf wordOf lay parts.grabOf parts.releaseOf parts.swapOf committedOf holdsOf isFirst worker.countedOf registerOf withRegister wornOf refusalNumber refusalPlace u32sOf badlyFormed codeTold instrTold instrsOf toldBy straysAt guardsTold setupTold turnsTold anyOf inUseOf lowestOf helpedOf spotOf try.answerOf try.commitStep try.effectOf try.followStep try.grabStep try.lookAgainStep try.lookStep try.markStep try.readMarkStep try.readStep try.releaseStep try.swapStep worker.beganOf worker.beginByState worker.collectByState worker.collectedOf worker.dropByState worker.droppedOf worker.stepByState beginOf beginTold begunOf collectOf dropOf freshOf readLockOf readWordOf setupOf stepOf blankOf placesOf putAt viewAt after afterAll setupS jobA jobSkipping fresh parkOf parkTold heldTold u32sBytes UsedAlong AllRecords past
 premises-met = record { bytes = job-bytes; begun = refl; used = (refl, refl); later = tt; parked = refl }

@@ -49,7 +49,7 @@ fn one_history(pair: &mut Pair, seed: u64, calls: u64) -> Result<(), Difference>
         _ => Kind::Wide,
     };
     let mut generator = Generator::new(seed, kind);
-    for _ in 0..200 + random.below(1800) {
+    for _ in 0..200 + random.below(600) {
         if pair.calls >= calls {
             break;
         }
@@ -82,16 +82,22 @@ mod tests {
 
     #[test]
     fn equal_calls() {
-        let pair = compare(1, 50_000, None, |_| ()).unwrap_or_else(|no| panic!("{no}"));
-        assert!(pair.calls >= 50_000 && pair.readings >= 50_000);
+        let pair = compare(1, 200_000, None, |_| ()).unwrap_or_else(|no| panic!("{no}"));
+        assert!(pair.calls >= 200_000 && pair.readings >= 200_000);
         // Every refusal but 10, which is out of reach, and accepted calls.
         for number in (0..=16).filter(|&number| number != 10) {
             assert!(pair.told[number] >= 10, "{number}: {:?}", pair.told);
         }
         let answers = pair.answers;
         assert!(answers.iter().all(|&times| times >= 10), "{answers:?}");
+        // Jobs of every length, and the longest runs, by owners and helpers.
+        let (begun, steps) = (pair.begun, pair.steps);
+        assert!(begun[1..].iter().all(|&times| times >= 2), "{begun:?}");
+        let longest = [Engine::LONGEST_HELP, Engine::LONGEST_TRY];
+        let longest = longest.map(|number| steps[number as usize]);
+        assert!(longest.iter().all(|&times| times >= 2), "{longest:?}");
         let records = &pair.records;
-        assert!(records.count() >= 25_000);
+        assert!(records.count() >= 100_000);
         for number in [0, 5, 6, 13, 17] {
             assert!(records.told[number] >= 10, "{:?}", records.told);
         }
@@ -135,6 +141,7 @@ mod tests {
             Wrong::OwnSheetCounts,
             Wrong::NotTakenOfWorn,
             Wrong::WornAtStepFour,
+            Wrong::LogsOverlap,
         ] {
             let third = Box::new(Second(Engine::wrong(wrong)));
             let found = compare(1, 200_000, Some(third), |_| ());

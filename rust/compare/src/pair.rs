@@ -62,6 +62,10 @@ pub struct Pair {
     pub told: [u64; 32],
     /// How many collects told each answer; at 0 those refused.
     pub answers: [u64; 5],
+    /// How many accepted begins had each number of instructions.
+    pub begun: [u64; Engine::INSTRUCTIONS + 1],
+    /// How many collects told each number of steps; at 0 those refused.
+    pub steps: [u64; Engine::LONGEST_TRY as usize + 1],
 }
 
 impl Pair {
@@ -79,6 +83,8 @@ impl Pair {
             readings: 0,
             told: [0; 32],
             answers: [0; 5],
+            begun: [0; Engine::INSTRUCTIONS + 1],
+            steps: [0; Engine::LONGEST_TRY as usize + 1],
         }
     }
 
@@ -94,6 +100,9 @@ impl Pair {
         let number = self.compare_one(call)?;
         self.compare_record(call)?;
         self.told[number as usize % 32] += 1;
+        if let (Call::Begin { record, .. }, 0) = (call, number) {
+            self.begun[record.len() / 4 - 1] += 1;
+        }
         let after = |read: Difference| read.after(call);
         if self.calls.is_multiple_of(WORDS_AFTER) {
             self.compare_words().map_err(after)?;
@@ -113,6 +122,7 @@ impl Pair {
         let number = second.number();
         if let Told::Collected(told) = &second {
             self.answers[told.answer as usize] += 1;
+            self.steps[told.steps as usize] += 1;
         }
         let kept = number != 0 || reads(call);
         if kept {

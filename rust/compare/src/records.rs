@@ -91,9 +91,11 @@ impl Records {
         }
     }
 
-    /// The size of a buffer: a record's, a byte more or less, or any.
+    /// The size of a buffer: a record's, a byte more or less, or any, up to
+    /// somewhat more than the longest record's.
     fn size(&mut self, record: usize) -> usize {
-        let any = self.random.below(160) as usize;
+        let longest = 8 + 4 * Engine::INSTRUCTIONS as u32;
+        let any = self.random.below(longest + 24) as usize;
         self.random.pick(&[record, record + 1, record - 1, any])
     }
 }
@@ -119,7 +121,7 @@ mod tests {
     use crate::{one_history, Pair};
 
     /// Writers with one slip each.
-    const WRONG: [(&str, Writer); 8] = [
+    const WRONG: [(&str, Writer); 11] = [
         ("worker for lock", |call, worker, lock, job, buffer| {
             lent::record(call, lock, worker, job, buffer)
         }),
@@ -151,6 +153,31 @@ mod tests {
             let told = lent::record(call, worker, lock, job, buffer);
             let number = told.number - u32::from(told.number == 6);
             Wrote { number, ..told }
+        }),
+        ("the old kind alone", |call, worker, lock, job, buffer| {
+            let (number, place, length) = (6, 0, 0);
+            match (call, job.get(2)) {
+                (lent::BEGIN, Some(4)) => Wrote {
+                    number,
+                    place,
+                    length,
+                },
+                _ => lent::record(call, worker, lock, job, buffer),
+            }
+        }),
+        ("either kind of 33", |call, worker, lock, job, buffer| {
+            let mut job = job.to_vec();
+            if job.len() == 4 + 4 * 33 && job[2] == 1 {
+                job[2] = 4;
+            }
+            lent::record(call, worker, lock, &job, buffer)
+        }),
+        ("one byte of length", |call, worker, lock, job, buffer| {
+            let told = lent::record(call, worker, lock, job, buffer);
+            if told.number == 0 {
+                buffer[1] = 0;
+            }
+            told
         }),
         ("13, written", |call, worker, lock, job, buffer| {
             let told = lent::record(call, worker, lock, job, buffer);

@@ -45,7 +45,7 @@ struct Draft {
 
 /// Room for what one call of the generator records, at most a whole try step
 /// by step and the step that is refused after it, and for a begin.
-const ROOM: usize = 1_000;
+const ROOM: usize = 8 * (Engine::LONGEST_TRY as usize + 1) + 8 + 4 * Engine::INSTRUCTIONS;
 
 /// Good files.
 impl Draft {
@@ -223,7 +223,7 @@ impl Draft {
             _ => {
                 // A begin: of no instructions, as many as may be, or more.
                 record[4] = 0;
-                8 + 4 * self.random.pick(&[0, 1, 32, 33, 34, 64])
+                8 + 4 * self.random.pick(&[0, 1, 32, 33, 64, 65, 66, 128])
             }
         };
         record.resize(length, 0);

@@ -18,12 +18,26 @@ pub fn bytes(record: &str) -> Vec<u8> {
     }
 }
 
-/// A job record of these instructions.
+/// A job record of these instructions, kind 1 up to 32 of them, else kind 4.
 pub fn job(program: &[[u8; 4]]) -> Vec<u8> {
-    let length = 4 + 4 * program.len();
-    let mut record = vec![length as u8, (length >> 8) as u8, 1, 0];
+    let kind = if program.len() <= 32 { 1 } else { 4 };
+    job_of_kind(kind, program)
+}
+
+/// The same of any kind and count, whether there is such a record or not.
+pub fn job_of_kind(kind: u16, program: &[[u8; 4]]) -> Vec<u8> {
+    let length = 4 + 4 * program.len() as u16;
+    let mut record = [length.to_le_bytes(), kind.to_le_bytes()].concat();
     record.extend(program.concat());
     record
+}
+
+/// A program of so many instructions: the same one again and again, then a
+/// halt that answers no.
+pub fn repeated(instruction: [u8; 4], count: usize) -> Vec<[u8; 4]> {
+    let mut program = vec![instruction; count - 1];
+    program.push([0, 0, 0, 0]);
+    program
 }
 
 /// A setup record.

@@ -1,5 +1,5 @@
 -- What Record.antt goes by and does not list itself: the library's symbols, the generated types and their cases.
-pub use Prim.Native.Nat.{ℕ, _+_, _-_, min}
+pub use Prim.Native.Nat.{ℕ, _+_, _-_, _/_, min}
 pub use mathlib.Core.Bool.{Bool, true, false}
 pub use mathlib.Core.List.{List, [], _∷_}
 pub use lib.Dec.{eqb, ltb}

@@ -36,6 +36,7 @@ use Rattle.histories.proofs.demand.Helped.{step-accepted, step-scene, c
 use Rattle.histories.proofs.rules.Rules.{under-start, held-below}
 use Rattle.histories.proofs.map.Map.{rulesOf, sceneOf, taleOf, Under}
 use Rattle.past.proofs.Accepted.{one-of, finished-of, collect-told}
+use Rattle.histories.proofs.demand.Sooner.{Soon, soon-under, soon-past}
 use Rattle.histories.proofs.demand.Uncut.{uncut}
 use Rattle.histories.proofs.simulation.Counted.{stepped-worker}
 use Rattle.histories.proofs.simulation.Standing.{Standing, guarded, standing-past, state-follow, over-follow}
@@ -195,6 +196,7 @@ demand-3 p =
             only = s .next .ok .only;
             turn = turn-past p;
             ends = ends e₀ u₀ x s;
+            endsHelping = λ w h f. (λ q e. soon-under instructions (x .steps w) h q (soon w h f (UnderWay q) e), sooner w h f);
             counted = counts e₀ u₀ x s;
             uncut = uncut (rulesOf e₀) (x .state) (s .good) (s .under) (ranged (rulesOf e₀) _ _ (s .next .st) (s .next .ok));
           };
@@ -211,6 +213,20 @@ demand-3 p =
 
     s : Standing (rulesOf (setupOf (p .setup) .engine)) (sofar p)
     s = standing-past p
+
+    soon :
+        (w h : ℕ) → sofar p .found w .holder ≡ By h → (t : State) → workerAt (sofar p .state) w .state ≡ t →
+        Soon instructions t (sofar p .steps w) (By h)
+    soon w h f t e =
+        subst (λ (t : State). Soon instructions t (sofar p .steps w) (By h)) e
+        (subst (Soon instructions (workerAt (sofar p .state) w .state) (sofar p .steps w)) f (soon-past p w))
+
+    sooner :
+        (w h : ℕ) → sofar p .found w .holder ≡ By h → (a : Answer) (n m : ℕ) →
+        collectOf (sofar p .state) w .told ≡ CollectTold.Answered a n m → n ≤ 193
+    sooner w h f a n m e =
+        let t = tells (sofar p .state) w a n m e in
+        omega (arith, counts (setupOf (p .setup) .engine) (under-start (p .setup) (p .setupBytes)) (sofar p) (standing-past p) w a n m e .0, soon w h f (Finished a) (t .state))
 
     same : sofar p .state ≡ stateAfter p
     same = state-follow (start (setupOf (p .setup) .engine)) (p .calls)

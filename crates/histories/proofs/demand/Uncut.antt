@@ -1,4 +1,4 @@
--- counts stay below 2 to the 31st, turns at most 67,108,864, every index in its range: no remainder and no wrap of the
+-- counts stay below 2 to the 32nd, turns at most 67,108,864, every index in its range: no remainder and no wrap of the
 -- definitions changes a number in a state that the calls gave.
 use Prim.Native.Nat.{ℕ, _+_, _*_, _-_, _≤_, _<_}
 use native.Mathlib.Omega.{arith}

@@ -11,7 +11,7 @@ use Rattle.parts.specs.Parts as parts
 use Rattle.parts.specs.Parts.{committedOf, holdsOf, isFirst, registerOf, withRegister, wornOf}
 use Rattle.parts.specs.declared.Answer.the-variants.{NotTaken}
 use Rattle.records.specs.Bytes.{u32sOf}
-use Rattle.records.specs.Job.{badlyFormed, codeTold, instrTold, instrsOf, jobOf, jobTold, straysAt}
+use Rattle.records.specs.Job.{badlyFormed, codeTold, instrTold, instrsOf, jobOf, toldBy, straysAt}
 use Rattle.records.specs.Setup.{guardsTold, setupTold, turnsTold}
 use Rattle.sheets.specs.Sheets.{anyOf, inUseOf, lowestOf}
 use Rattle.steps.specs.Places.{helpedOf, spotOf}
@@ -59,7 +59,7 @@ pub record TwoRunners : Type 0 where
   pub entries : filledEntries (sofar twoRunners .state) 0 ≡ 2
 
 pub two-runners : TwoRunners
-unfolding wordsFrom asksOf followsOf wordOf lay parts.grabOf parts.releaseOf parts.swapOf committedOf holdsOf isFirst worker.countedOf registerOf withRegister wornOf u32sOf badlyFormed codeTold instrTold instrsOf jobTold straysAt guardsTold setupTold turnsTold anyOf inUseOf lowestOf helpedOf spotOf try.answerOf try.commitStep try.effectOf try.followStep try.grabStep try.lookAgainStep try.lookStep try.markStep try.readMarkStep try.readStep try.releaseStep try.swapStep worker.beganOf worker.beginByState worker.collectByState worker.collectedOf worker.dropByState worker.droppedOf worker.stepByState beginOf beginTold begunOf collectOf dropOf freshOf setupOf stepOf blankOf placesOf putAt viewAt thenOf follow setupS jobA jobSkipping AllRecords newFrom madeBy sumOf twoRunning twoRunners
+unfolding wordsFrom asksOf followsOf wordOf lay parts.grabOf parts.releaseOf parts.swapOf committedOf holdsOf isFirst worker.countedOf registerOf withRegister wornOf u32sOf badlyFormed codeTold instrTold instrsOf toldBy straysAt guardsTold setupTold turnsTold anyOf inUseOf lowestOf helpedOf spotOf try.answerOf try.commitStep try.effectOf try.followStep try.grabStep try.lookAgainStep try.lookStep try.markStep try.readMarkStep try.readStep try.releaseStep try.swapStep worker.beganOf worker.beginByState worker.collectByState worker.collectedOf worker.dropByState worker.droppedOf worker.stepByState beginOf beginTold begunOf collectOf dropOf freshOf setupOf stepOf blankOf placesOf putAt viewAt thenOf follow setupS jobA jobSkipping AllRecords newFrom madeBy sumOf twoRunning twoRunners
 two-runners =
     record {
       owners = refl;

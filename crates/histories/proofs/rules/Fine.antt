@@ -14,12 +14,12 @@ use Rattle.parts.specs.Parts.{registerOf}
 use Rattle.parts.specs.Pick.{pick, _or_, _isnt_}
 use Rattle.parts.specs.Told.{refuseIf}
 use Rattle.parts.specs.declared.Instr.{Instr}
-use Rattle.parts.specs.declared.Refusal.the-variants.{Length, Kind, Instruction, Guard}
+use Rattle.parts.specs.declared.Refusal.the-variants.{Instruction, Guard}
 use Rattle.parts.specs.declared.Registers.{Registers}
 use Rattle.parts.specs.declared.Told.the-variants.{Accepted}
 use Rattle.parts.proofs.Order.{first-all, both-pass, row-passes, neither, not-isnt}
-use Rattle.records.specs.Bytes.{kindField, lengthTold}
-use Rattle.records.specs.Job.{jobKind, jobOf, noRegister, noJobLength, badlyFormed, endsOtherwise, strays, straysAt, instrTold, codeTold, jobTold}
+use Rattle.records.specs.Job.{jobOf, noRegister, badlyFormed, endsOtherwise, strays, straysAt, instrTold, codeTold, jobTold}
+use Rattle.records.proofs.Form.{job-code}
 use Rattle.engine.proofs.Begins.{job-size}
 use Rattle.helping.specs.Machine.{Rules, Act, fin, go, touch, target, actOf, actAt}
 use Rattle.helping.specs.Ideal.{Touches, farOf, Fine}
@@ -120,7 +120,6 @@ sound-names left lock guards (touch w f) s t =
 pub told-fine :
     (K : Rules) (rec : List ℕ) (l : ℕ) (guards : List ℕ) → K .most ≡ instructions → length (K .values) ≡ length guards →
     ((q : ℕ) → q < length guards → getD guards q 0 ≡ K .guard q) → jobTold rec l guards ≡ Accepted → Fine K l (jobOf rec)
-unfolding jobTold
 told-fine K rec l guards most words g a =
     let size = job-size rec l guards a in
     record {
@@ -137,7 +136,4 @@ told-fine K rec l guards most words g a =
         (n : ℕ) (r : Registers) → n < length (jobOf rec) →
         Sound (length (jobOf rec) - suc n) l guards (actAt (jobOf rec) n r)
     each n r h =
-        let rows =
-        lengthTold rec ∷ refuseIf (kindField rec isnt jobKind) Kind ∷ refuseIf (noJobLength (length rec)) Length ∷
-        codeTold (jobOf rec) 0 l guards ∷ [] in
-        code-sound l guards r (jobOf rec) 0 n _ (first-all rows a 3) (omega arith)
+        code-sound l guards r (jobOf rec) 0 n _ (job-code rec l guards a) (omega arith)

@@ -11,7 +11,7 @@ use Rattle.parts.specs.declared.Answer.the-variants.{RanYes, NotTaken, Worn}
 use Rattle.parts.specs.declared.Refusal.the-variants.{WorkerUnderWay, LastTurn}
 use Rattle.parts.specs.declared.Told.the-variants.{Refused}
 use Rattle.records.specs.Bytes.{u32sOf, AllBytes}
-use Rattle.records.specs.Job.{badlyFormed, codeTold, instrTold, instrsOf, jobTold, straysAt}
+use Rattle.records.specs.Job.{badlyFormed, codeTold, instrTold, instrsOf, toldBy, straysAt}
 use Rattle.records.specs.Setup.{guardsTold, setupTold, turnsTold}
 use Rattle.sheets.specs.Sheets.{anyOf, inUseOf, lowestOf}
 use Rattle.steps.specs.Places.{helpedOf, spotOf}
@@ -72,6 +72,6 @@ pub record LastTurns : Type 0 where
   pub late : collectOf (sofar lateLast .state) 1 .told ≡ CollectTold.Answered NotTaken 4 0
 
 pub last-turns : LastTurns
-unfolding wordsFrom asksOf followsOf wordOf lay parts.grabOf parts.releaseOf parts.swapOf committedOf holdsOf isFirst worker.countedOf registerOf withRegister wornOf u32sOf badlyFormed codeTold instrTold instrsOf jobTold straysAt guardsTold setupTold turnsTold anyOf inUseOf lowestOf helpedOf spotOf try.answerOf try.commitStep try.effectOf try.followStep try.grabStep try.lookAgainStep try.lookStep try.markStep try.readMarkStep try.readStep try.releaseStep try.swapStep worker.beganOf worker.beginByState worker.collectByState worker.collectedOf worker.dropByState worker.droppedOf worker.stepByState beginOf beginTold begunOf collectOf dropOf freshOf setupOf stepOf blankOf placesOf putAt viewAt thenOf follow setupS jobA jobSkipping AllRecords allBelow setupLast bothBegin helpedLast lookedLast lateLast
+unfolding wordsFrom asksOf followsOf wordOf lay parts.grabOf parts.releaseOf parts.swapOf committedOf holdsOf isFirst worker.countedOf registerOf withRegister wornOf u32sOf badlyFormed codeTold instrTold instrsOf toldBy straysAt guardsTold setupTold turnsTold anyOf inUseOf lowestOf helpedOf spotOf try.answerOf try.commitStep try.effectOf try.followStep try.grabStep try.lookAgainStep try.lookStep try.markStep try.readMarkStep try.readStep try.releaseStep try.swapStep worker.beganOf worker.beginByState worker.collectByState worker.collectedOf worker.dropByState worker.droppedOf worker.stepByState beginOf beginTold begunOf collectOf dropOf freshOf setupOf stepOf blankOf placesOf putAt viewAt thenOf follow setupS jobA jobSkipping AllRecords allBelow setupLast bothBegin helpedLast lookedLast lateLast
 last-turns =
     record { ran = refl; worn = refl; refused = refl; goesOn = refl; helped = refl; next = refl; late = refl }

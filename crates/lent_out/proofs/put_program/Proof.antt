@@ -13,5 +13,6 @@ put-program-spec =
     (λ c. search needs)
     (λ c κs. search needs)
     (λ c κs. search needs)
+    (λ c κs. search needs)
     (λ c. search needs)
     (λ c. search (program-size, program-laid, whole)))

@@ -12,10 +12,12 @@ put-job-spec =
     (tie.spec
     (λ c κs. search needs)
     (λ c. search needs)
+    (λ c. search needs)
+    (λ c κs. search needs)
     (λ c κs. search needs)
     (λ c. search needs)
     (λ c. search needs)
     (λ c. search needs)
     (λ c κs. search (code-room, needs) depth 8)
     (λ c. search needs)
-    (λ c. (search (job-laid, needs) depth 8, let l : length (c .put-bytes .last .1 .0) ≡ 132 = search needs in search job-room)))
+    (λ c. (search (job-laid, needs) depth 8, let l : length (c .put-bytes .last .1 .0) ≡ 260 = search needs in search job-room)))

@@ -1,6 +1,7 @@
 -- Each return is what the definition picks on the way that led there.
 use borrow.Author.Needs.{needs}
 use Rattle.parts.proofs.Laws.{calls, laws, order}
+use Rattle.records.proofs.Form.{form-kind, form-length, form-passes}
 use Rattle.records.proofs.Laws.{length-four}
 use Rattle.records.proofs.job.form_told.Statement.{statement}
 use Rattle.records.proofs.job.form_told.Tie as tie
@@ -14,7 +15,8 @@ form-told-spec =
     (λ c. search (laws, calls, order) depth 10)
     (λ c. search needs)
     (λ c κs. search length-four)
-    (λ c. search (laws, calls, order) depth 10)
     (λ c κs. search needs)
-    (λ c. search (laws, calls, order) depth 10)
-    (λ c. search (laws, calls, order) depth 10))
+    (λ c. search form-kind)
+    (λ c κs. search needs)
+    (λ c. search form-length)
+    (λ c. search form-passes))

@@ -9,6 +9,8 @@ no-job-length-spec =
     tie.close
     (tie.spec
     (λ c. search laws depth 8)
+    (λ c. search needs)
+    (λ c. search needs)
     (λ c. search laws depth 8)
     (λ c. search needs)
     (λ c. search needs)
