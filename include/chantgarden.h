@@ -1,5 +1,5 @@
-/* The job engine, called from C: nine calls on a state that the caller lends as plain numbers, and the writer of a call's record.
- * Link libchantgarden.a.
+/* The job engine, called from C: nine calls on a state that the caller lends as plain numbers, the writer of a call's record, and a
+ * plain engine, which is lent words instead of a state. Link libchantgarden.a.
  *
  * Lending: a pointer is followed by how many numbers or bytes it points to; it is not NULL, and what two pointers of one call
  * point to does not overlap. No call keeps a pointer, allocates or blocks. Calls on one state are made one after the other, never
@@ -7,9 +7,9 @@
  * still read as some state, and never past the lent ones.
  *
  * Answers: number 0 says that the call was accepted. Any other number is a refusal of document 01, and place is its place there,
- * 0 where it tells none; but 17, which is request 01's, and 22, the header's own, both with place 0. Which of several is told is
+ * 0 where it tells none; but 17, which is request 01's, 16 of chant_plain and 22, the header's own, all with place 0. Which of several is told is
  * document 01's order, not that of the lists below.
- * A refusal changes not one number of the state and not one byte of the buffer (setup: the state becomes the blank one, except
+ * A refusal changes not one number of the state, not one word and not one byte of the buffer (setup: the state becomes the blank one, except
  * under 22). A field that has nothing to tell is 0, so all of them after number and place where a call is refused.
  *
  *    1 worker above 7                        9 the lock is free with turn 67,108,864
@@ -19,7 +19,7 @@
  *    5 record length wrong                  13 lent buffer shorter than the record
  *    6 kind is none that this call takes    14 sheet above 31 or free
  *    7 instruction badly formed, or the     15 a lock is held
- *      last is no halt                      16 word not below W
+ *      last is no halt                      16 word not below W; chant_plain: see there
  *    8 a load, store or cam names a word    17 a record that makes no call: call above 3
  *      this lock doesn't guard, or no word  22 fewer numbers lent than CHANT_STATE_NUMBERS; told before any other
  */
@@ -65,6 +65,7 @@ typedef struct { uint32_t number, place, answer, steps, filled; } chant_collecte
 typedef struct { uint32_t number, place, value, count, guard; } chant_word;
 typedef struct { uint32_t number, place, turn, held, sheet; } chant_lock; /* held: 0 free, 1 held by sheet */
 typedef struct { uint32_t number, place, length; } chant_wrote;
+typedef struct { uint32_t number, place, answer, executed; } chant_ran;
 
 /* Makes a fresh state from a setup record (kind 2), whatever the numbers were; a refused one makes the blank state.
  * Refused 5, 6, 12. The place of 12 is the first byte of what is outside its range. */
@@ -115,6 +116,15 @@ CHANT_READ chant_wrote chant_park(const uint32_t *state, size_t numbers, uint8_t
  * Refused 17, 5 and 6 (a begin whose record is no job record, which chant_begin refuses too), 13. */
 CHANT_READ chant_wrote chant_record(uint32_t call, uint32_t worker, uint32_t lock, const uint8_t *record, size_t length,
                                     uint8_t *buffer, size_t room);
+
+/* Runs a job record at once, alone, for a bench with one worker: no state, no log, no steps. The words are the caller's, in two
+ * tables: their values, which the job changes, and the lock that guards each. lock is any number, and the job may touch the words
+ * whose guard it is. answer: CHANT_RAN_YES or CHANT_RAN_NO; executed: the instructions executed, the halt counted, those passed over
+ * not. It answers and leaves what a worker stepped alone on a lock that is free below its last turn does. Refused 16 (the tables differ in length, or have more
+ * than 64 words), 5, 6, 7, 8 as in chant_begin; then no value is changed. Each instruction is a call of its own: stack 12,400 bytes
+ * for 64 of them (x86-64). */
+CHANT_READ chant_ran chant_plain(uint32_t *values, size_t values_length, const uint8_t *guards, size_t guards_length, uint32_t lock,
+                                 const uint8_t *record, size_t length);
 
 #ifdef __cplusplus
 }

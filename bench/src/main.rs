@@ -1,6 +1,6 @@
 //! The benchmark: nanoseconds a step, of the archive, of the second program
-//! and of the engine by value where that can be timed (build.rs), in one run;
-//! the stack of each exported function; the size of a state; instructions a
+//! and of the engine by value where that can be timed (build.rs), and
+//! nanoseconds a job of the plain engine, in one run; the stack of each exported function; the size of a state; instructions a
 //! call, beside the second program and a plain C engine, which is first held
 //! against the archive. It writes Markdown. It is no test: its figures vary
 //! with where and, but for the instructions, when it runs.
@@ -9,6 +9,7 @@ mod callers;
 mod callgrind;
 mod count;
 mod plain;
+mod plainly;
 mod sides;
 mod stack;
 
@@ -20,7 +21,7 @@ use sides::{ByValue, InPlace, Lent, Side};
 use std::process::ExitCode;
 
 /// The calls of include/chantgarden.h.
-const CALLS: [&str; 10] = [
+const CALLS: [&str; 11] = [
     "chant_setup",
     "chant_begin",
     "chant_step",
@@ -31,6 +32,7 @@ const CALLS: [&str; 10] = [
     "chant_show",
     "chant_park",
     "chant_record",
+    "chant_plain",
 ];
 /// Tries in one timed round, of all workers of all its engines.
 const TRIES: usize = 16;
@@ -192,8 +194,8 @@ fn setups_table() {
 }
 
 fn stack_table(archive: &str) -> Result<(), String> {
-    let needs = stack::read(archive, &CALLS)?;
-    println!("\nStack of each call, with the return address:\n");
+    let needs = stack::read(archive, &CALLS, Engine::INSTRUCTIONS)?;
+    println!("\nStack of each call, with the return address; the plain engine calls itself, once for each of 64 instructions:\n");
     println!("| call | bytes | calls outside the archive |");
     println!("|---|---|---|");
     for (call, need) in CALLS.iter().zip(needs) {
@@ -219,6 +221,7 @@ fn write(archive: &str) -> Result<(), String> {
     let held = hold()?;
     workers_table();
     setups_table();
+    plainly::table(&Game::new(1, 2, 1).job);
     stack_table(archive)?;
     println!("\nA state: {NUMBERS} numbers, {} bytes.", 4 * NUMBERS);
     println!("\nThe plain C engine answered like the archive: {held}.");

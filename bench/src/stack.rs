@@ -10,19 +10,21 @@ use std::process::Command;
 #[derive(Clone, PartialEq, Eq, Debug)]
 pub struct Need {
     /// Bytes with the return address; none where there is no bound, since
-    /// it calls itself, calls through a pointer or takes a computed amount.
+    /// it calls through a pointer or takes a computed amount.
     pub bytes: Option<i64>,
     /// Functions outside the archive that it calls; what they take is not
     /// in the bytes, but for the return address.
     pub outside: BTreeSet<String>,
 }
 
-/// The stack of the named functions of an archive.
-pub fn read(archive: &str, names: &[&str]) -> Result<Vec<Need>, String> {
+/// The stack of the named functions of an archive, of which one that calls
+/// itself is so many frames deep at most.
+pub fn read(archive: &str, names: &[&str], deep: usize) -> Result<Vec<Need>, String> {
     if !objdump(&["--version"])?.starts_with("GNU ") {
         return Err("objdump is not GNU objdump".to_string());
     }
-    let code = Code::parse(&objdump(&["-d", "-r", "--no-show-raw-insn", archive])?);
+    let mut code = Code::parse(&objdump(&["-d", "-r", "--no-show-raw-insn", archive])?);
+    code.deep = deep;
     let need = |name: &&str| code.need(name).ok_or(format!("{archive} has no {name}"));
     names.iter().map(need).collect()
 }
@@ -60,6 +62,8 @@ struct Code {
     /// The sections of each object, and all functions' starts, by name.
     sections: HashMap<(usize, String), usize>,
     functions: HashMap<String, (usize, u64)>,
+    /// How many frames deep a function may call itself.
+    deep: usize,
 }
 
 /// Where a call or a jump goes.
@@ -205,14 +209,16 @@ impl Code {
         above: &mut Vec<usize>,
         outside: &mut BTreeSet<String>,
     ) -> Option<i64> {
-        if above.contains(&start) {
-            return None;
-        }
         above.push(start);
         let found = self.follow(start);
         outside.extend(found.outside);
         let mut below = (!found.unbounded).then_some(found.deepest);
-        for (depth, callee) in found.calls {
+        let frames = |callee: &usize| above.iter().filter(|&above| above == callee).count();
+        let calls = found.calls.into_iter();
+        let calls: Vec<(i64, usize)> = calls
+            .filter(|(_, callee)| frames(callee) < self.deep)
+            .collect();
+        for (depth, callee) in calls {
             let callee = self.below(callee, above, outside);
             below = below
                 .zip(callee)
@@ -454,7 +460,8 @@ Disassembly of section .text:
 ";
 
     fn need(name: &str) -> (Option<i64>, Vec<String>) {
-        let code = Code::parse(TEXT);
+        let mut code = Code::parse(TEXT);
+        code.deep = 3;
         let need = code.need(name).expect("it is there");
         (need.bytes, need.outside.into_iter().collect())
     }
@@ -465,7 +472,8 @@ Disassembly of section .text:
         let outside = vec!["memset".to_string()];
         assert_eq!(need("caller"), (Some(8 + 8 + 72 + 28), outside));
         assert_eq!(need("framed"), (Some(8 + 8 + 8 + 24 + 128), vec![]));
-        for unbounded in ["again", "grown", "through"] {
+        assert_eq!(need("again"), (Some(3 * (8 + 8)), vec![]));
+        for unbounded in ["grown", "through"] {
             assert_eq!(need(unbounded), (None, vec![]));
         }
         assert_eq!(Code::parse(TEXT).need("none"), None);

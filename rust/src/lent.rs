@@ -1,10 +1,10 @@
-//! The archive's nine calls on numbers that the caller lends, and its writer
-//! of a call's record, one function each, with the answers as
+//! The archive's nine calls on numbers that the caller lends, its writer of a
+//! call's record and its plain engine, one function each, with the answers as
 //! include/chantgarden.h has them: number 0 says accepted, and a field that
 //! has nothing to tell is 0. [`Engine`] and [`Recorder`] are built on these.
 //! They are all safe, for any slices and numbers at all.
 //!
-//! All that is unsafe in this package stands here: ten calls of functions
+//! All that is unsafe in this package stands here: eleven calls of functions
 //! that are declared by hand. That is sound, because
 //!
 //! - the declarations are the header's, name by name: a slice is a pointer
@@ -84,6 +84,17 @@ pub struct Wrote {
     pub length: u32,
 }
 
+/// The header's `chant_ran`.
+#[must_use]
+#[repr(C)]
+#[derive(Clone, Copy, PartialEq, Eq, Debug, Default)]
+pub struct Plain {
+    pub number: u32,
+    pub place: u32,
+    pub answer: u32,
+    pub executed: u32,
+}
+
 #[rustfmt::skip]
 extern "C" {
     fn chant_setup(state: *mut u32, numbers: usize, record: *const u8, length: usize) -> Reply;
@@ -96,6 +107,7 @@ extern "C" {
     fn chant_show(state: *const u32, numbers: usize, sheet: u32, buffer: *mut u8, length: usize) -> Wrote;
     fn chant_park(state: *const u32, numbers: usize, buffer: *mut u8, length: usize) -> Wrote;
     fn chant_record(call: u32, worker: u32, lock: u32, record: *const u8, length: usize, buffer: *mut u8, room: usize) -> Wrote;
+    fn chant_plain(values: *mut u32, values_length: usize, guards: *const u8, guards_length: usize, lock: u32, record: *const u8, length: usize) -> Plain;
 }
 
 /// A fresh state from a setup record; a refused one gives the blank state.
@@ -176,4 +188,18 @@ pub fn record(call: u32, worker: u32, lock: u32, record: &[u8], buffer: &mut [u8
     let (record, buffer) = (record.as_ptr(), buffer.as_mut_ptr());
     // SAFETY: two slices that don't overlap, as the module's text says.
     unsafe { chant_record(call, worker, lock, record, length, buffer, room) }
+}
+
+/// Runs a job record at once on the words' values, with their guards.
+#[inline]
+pub fn plain(values: &mut [u32], guards: &[u8], lock: u32, record: &[u8]) -> Plain {
+    let lengths = [values.len(), guards.len(), record.len()];
+    let (values, guards, record) = (values.as_mut_ptr(), guards.as_ptr(), record.as_ptr());
+    // SAFETY: three slices, of which the one that is written overlaps no
+    // other, as the module's text says.
+    unsafe {
+        chant_plain(
+            values, lengths[0], guards, lengths[1], lock, record, lengths[2],
+        )
+    }
 }

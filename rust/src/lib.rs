@@ -55,7 +55,7 @@ impl Refusal {
             3 => "worker under way",
             4 => "answer not collected",
             5 => "record length wrong",
-            6 => "kind is not the one this call takes",
+            6 => "kind is none that this call takes",
             7 => "instruction badly formed, or the last is no halt",
             8 => "a load, store or cam names a word this lock doesn't guard, or no word",
             9 => "the lock is free with turn 67,108,864",
@@ -240,6 +240,29 @@ impl Engine {
     pub fn park(&self, buffer: &mut [u8]) -> Result<usize, Refusal> {
         wrote(lent::park(&self.numbers, buffer))
     }
+}
+
+/// How a job ended that the plain engine ran.
+#[must_use]
+#[derive(Clone, Copy, PartialEq, Eq, Hash, Debug)]
+pub struct Ran {
+    /// Whether its halt says yes.
+    pub yes: bool,
+    /// The instructions executed: the halt counts, those passed over don't.
+    pub executed: u32,
+}
+
+/// Runs a job record at once, alone, on words of the caller's own: their
+/// values, which the job changes, and the lock that guards each. It answers
+/// and leaves what a worker of an [`Engine`] does that is stepped alone on a
+/// free lock. A refused job changes no value.
+pub fn plain(values: &mut [u32], guards: &[u8], lock: u32, record: &[u8]) -> Result<Ran, Refusal> {
+    let told = lent::plain(values, guards, lock, record);
+    accept(told.number, told.place)?;
+    Ok(Ran {
+        yes: told.answer == 1,
+        executed: told.executed,
+    })
 }
 
 impl Default for Engine {

@@ -3,7 +3,7 @@
 //! reach, the lent calls with too few numbers, and the records of calls.
 
 use crate::lent::{self, NUMBERS};
-use crate::{Answer, Engine, Holder, LockWord, Recorder, Refusal, Word};
+use crate::{plain, Answer, Engine, Holder, LockWord, Ran, Recorder, Refusal, Word};
 use std::cell::RefCell;
 
 /// Setup S: two locks, words 5 and 9 under lock 0, word 7 under lock 1.
@@ -347,6 +347,42 @@ fn the_longest_tries() {
     assert_eq!(engine.begin(1, 0, &A), Ok(()));
     assert_eq!(finished(&mut engine, 1), (Answer::NotTaken, 193, 32));
     assert_eq!(engine.read_word(0), word(0, 126));
+}
+
+/// What the plain engine answers, counts and leaves.
+#[test]
+fn jobs_run_plainly() {
+    let (mut values, guards) = ([5, 9, 7], [0, 0, 1]);
+    let ran = |yes, executed| Ok(Ran { yes, executed });
+    assert_eq!(plain(&mut values, &guards, 0, &A), ran(true, 5));
+    assert_eq!(values, [6, 9, 7]);
+    assert_eq!(plain(&mut values, &guards, 0, &B), ran(false, 4));
+    values[1] = 6;
+    assert_eq!(plain(&mut values, &guards, 0, &B), ran(true, 4));
+    assert_eq!(values, [6, 6, 7]);
+    assert_eq!(plain(&mut [], &[], u32::MAX, &halts(4, 64)), ran(false, 1));
+}
+
+/// Its refusals, in their order, none of which changes a value.
+#[test]
+fn refusals_of_the_plain_engine() {
+    let words = |values: usize, guards: usize| (vec![5; values], vec![0; guards]);
+    for (values, guards) in [(2, 3), (3, 2), (0, 1), (1, 0), (65, 65), (64, 65)] {
+        let (mut values, guards) = words(values, guards);
+        assert_eq!(plain(&mut values, &guards, 0, &[]), refused(16, 0));
+    }
+    let (mut values, guards) = words(64, 64);
+    for (lock, record, refusal) in [
+        (0, &A[..23], refused(5, 0)),
+        (0, &S[..], refused(6, 0)),
+        (0, &halts(4, 32), refused(5, 0)),
+        (1, &A, refused(8, 0)),
+        (256, &A, refused(8, 0)),
+        (0, &[8, 0, 1, 0, 8, 0, 0, 0], refused(7, 0)),
+    ] {
+        assert_eq!(plain(&mut values, &guards, lock, record), refusal);
+    }
+    assert!(values.iter().all(|&value| value == 5));
 }
 
 #[test]

@@ -234,7 +234,7 @@ impl Checker {
         self.taken[sheet].by = Some(number);
         self.tries.push(Try {
             lock,
-            program,
+            program: program.to_vec(),
             steps: 0,
             looked: None,
             won: None,

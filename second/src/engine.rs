@@ -18,7 +18,7 @@ pub struct Refusal {
 }
 
 /// A refusal with a place.
-fn refused_at<T>(number: u32, place: usize) -> Result<T, Refusal> {
+pub(crate) fn refused_at<T>(number: u32, place: usize) -> Result<T, Refusal> {
     let place = place as u32;
     Err(Refusal { number, place })
 }
@@ -323,8 +323,8 @@ impl Engine {
             State::Idle => {}
         }
         let lock = self.lock_index(lock)?;
-        let program = job::program(record, job::NOW)?;
-        self.check_job(lock, &program)?;
+        let guarded = |word: usize| self.words.get(word).is_some_and(|word| word.guard == lock);
+        let program = job::taken(record, guarded)?;
         if self.locks[lock] == LockWord::WORN {
             return refused(9);
         }
@@ -334,7 +334,7 @@ impl Engine {
         };
         let sheet = &mut self.sheets[own];
         *sheet = FREE_SHEET;
-        sheet.program[..program.len()].copy_from_slice(&program);
+        sheet.program[..program.len()].copy_from_slice(program);
         sheet.length = program.len();
         let log = self.log_of(own);
         self.entries[log].fill(None);
@@ -445,8 +445,14 @@ impl Engine {
         }
     }
 
+    /// Whether a worker (0 to 7) is in this state just what it is in another
+    /// one; for the tests only.
+    pub fn worker_as_in(&self, other: &Engine, worker: u32) -> bool {
+        self.workers[worker as usize] == other.workers[worker as usize]
+    }
+
     /// Which entries of a sheet's log are filled, a bit for each from the
-    /// lowest on; for the checker only.
+    /// lowest on; for the checker and the tests only.
     pub fn filled(&self, sheet: usize) -> u64 {
         let log = self.entries[self.log_of(sheet)].iter().rev();
         log.fold(0, |bits, entry| 2 * bits + u64::from(entry.is_some()))
@@ -484,22 +490,6 @@ impl Engine {
         }
         own || held && self.wrong != Wrong::FreeThoughHeld
             || helped && self.wrong != Wrong::FreeThoughHelped
-    }
-
-    /// Finds the lowest faulty instruction, 7 before 8 at the same place.
-    fn check_job(&self, lock: usize, program: &[Instruction]) -> Result<(), Refusal> {
-        for (place, &instruction) in program.iter().enumerate() {
-            if !well_formed(instruction, place, program.len()) {
-                return refused_at(7, place);
-            }
-            if let Some(named) = named_word(instruction) {
-                match self.words.get(named) {
-                    Some(word) if word.guard == lock => {}
-                    _ => return refused_at(8, place),
-                }
-            }
-        }
-        Ok(())
     }
 }
 
@@ -766,30 +756,6 @@ pub(crate) fn check_header(record: &[u8], kind: u16) -> Result<(), Refusal> {
         return refused(6);
     }
     Ok(())
-}
-
-/// Whether the instruction at this place of a job of n may stand there.
-fn well_formed([op, a, b, c]: Instruction, place: usize, n: usize) -> bool {
-    let register = |field: u8| usize::from(field) < Engine::REGISTERS;
-    let right = match op {
-        0 => a <= 1 && b == 0 && c == 0,
-        1 => register(a),
-        2 | 3 => register(a) && c == 0,
-        4 => register(a) && register(b),
-        5 | 6 => register(a) && register(b) && c == 0,
-        7 => register(a) && register(b) && c >= 1 && place + 1 + usize::from(c) < n,
-        8..=255 => false,
-    };
-    right && (op == 0 || place + 1 < n)
-}
-
-/// The word that a load, store or cam names.
-fn named_word([op, _, b, c]: Instruction) -> Option<usize> {
-    match op {
-        2 | 3 => Some(usize::from(b)),
-        4 => Some(usize::from(c)),
-        _ => None,
-    }
 }
 
 /// The words and lock words of a setup record.

@@ -9,6 +9,7 @@ use crate::script::{self, Call, LONGEST_BYTES, LONGEST_SCRIPT};
 use std::collections::VecDeque;
 
 pub mod files;
+pub mod plain;
 
 /// A small generator of numbers (splitmix), the same from the same seed.
 #[derive(Clone, Debug)]
@@ -447,12 +448,7 @@ impl Generator {
             record.push(self.random.below(locks) as u8);
         }
         for _ in 0..words {
-            let value = match self.random.below(8) {
-                0 => self.random.next() as u32,
-                1 => u32::MAX,
-                _ => u32::from(self.random.pick(&VALUES)),
-            };
-            record.extend(value.to_le_bytes());
+            record.extend(self.value().to_le_bytes());
         }
         for _ in 0..locks {
             let turn = match self.random.below(4) {
@@ -466,6 +462,15 @@ impl Generator {
         record
     }
 
+    /// A word's value.
+    fn value(&mut self) -> u32 {
+        match self.random.below(8) {
+            0 => self.random.next() as u32,
+            1 => u32::MAX,
+            _ => u32::from(self.random.pick(&VALUES)),
+        }
+    }
+
     /// A job that begin takes under this lock.
     fn job_record(&mut self, engine: &Engine, lock: u32) -> Vec<u8> {
         let guarded: Vec<u8> = (0..Engine::WORDS as u32)
@@ -476,10 +481,15 @@ impl Generator {
             })
             .map(|word| word as u8)
             .collect();
+        self.job_on(&guarded)
+    }
+
+    /// A job that names no words but these.
+    fn job_on(&mut self, guarded: &[u8]) -> Vec<u8> {
         let long = self.style.long_runs && !guarded.is_empty() && !self.random.one_in(4);
         let mut program = match long {
-            true => self.long_run(&guarded),
-            false => self.any_run(&guarded),
+            true => self.long_run(guarded),
+            false => self.any_run(guarded),
         };
         program.push([0, self.random.below(2) as u8, 0, 0]);
         job::record(&program.concat()).expect("it is no longer than a job")

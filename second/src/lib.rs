@@ -9,5 +9,6 @@ pub mod engine;
 pub mod files;
 pub mod generate;
 pub mod job;
+pub mod plain;
 pub mod program;
 pub mod script;

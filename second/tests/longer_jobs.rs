@@ -2,13 +2,12 @@
 //! their refusals, show, and what the old writer says.
 
 mod common;
-use common::{bytes, job, job_of_kind, repeated, setup, A, S};
-use second::engine::{Engine, Refusal};
+use common::{bytes, job, job_of_kind, numbers, repeated, setup, A, HALT, S};
+use second::engine::Engine;
 use second::generate;
 use second::job::{program, JobKind, NOW, OLD};
 use second::script::{self, Call};
 
-const HALT: [u8; 4] = [0, 0, 0, 0];
 const BAD: [u8; 4] = [8, 0, 0, 0];
 
 /// An engine set up with S.
@@ -16,11 +15,6 @@ fn engine() -> Engine {
     let mut engine = Engine::blank();
     engine.setup(&bytes(S)).unwrap();
     engine
-}
-
-/// The refusal's number and place; (0, 0) where there is none.
-fn numbers<T>(result: Result<T, Refusal>) -> (u32, u32) {
-    result.err().map_or((0, 0), |no| (no.number, no.place))
 }
 
 /// What begin says to a job record under lock 0 of S.
@@ -230,7 +224,7 @@ fn the_old_writer_refuses_kind_4() {
 fn old_and_now(record: &[u8]) {
     let (old, now) = (program(record, OLD), program(record, NOW));
     let of_kind_4 = record.get(2..4) == Some(&[4, 0]);
-    if numbers(old.clone()).0 == 6 && of_kind_4 {
+    if numbers(old).0 == 6 && of_kind_4 {
         assert_ne!(numbers(now).0, 6, "{record:?}");
     } else {
         assert_eq!(old, now, "{record:?}");
@@ -246,11 +240,11 @@ fn stored_jobs_stay_readable() {
     }
     for count in 1..=32 {
         let record = halts(1, count);
-        assert_eq!(program(&record, OLD), Ok(vec![HALT; count]));
-        assert_eq!(program(&record, NOW), Ok(vec![HALT; count]));
+        assert_eq!(program(&record, OLD), Ok(&[HALT; 32][..count]));
+        assert_eq!(program(&record, NOW), Ok(&[HALT; 32][..count]));
     }
-    let a = program(&bytes(A), OLD).unwrap();
-    assert_eq!(a.concat(), bytes(A)[4..]);
+    let a = bytes(A);
+    assert_eq!(program(&a, OLD).unwrap().concat(), a[4..]);
 }
 
 /// The records of the begins in random scripts.

@@ -1,8 +1,8 @@
 //! Every refusal with its place, and the order of each call's refusals.
 
 mod common;
-use common::{expect, job, repeated, setup};
-use second::engine::{Engine, LockWord, Refusal};
+use common::{expect, job, numbers, repeated, setup, HALT};
+use second::engine::{Engine, LockWord};
 use second::script::hex;
 
 /// An engine set up with S.
@@ -13,8 +13,6 @@ fn engine() -> Engine {
     engine
 }
 
-const HALT: [u8; 4] = [0, 0, 0, 0];
-
 /// What begin says to a job under lock 0 of S; (0, 0) if it takes it.
 fn begun(program: &[[u8; 4]]) -> (u32, u32) {
     begun_with(&job(program))
@@ -22,10 +20,6 @@ fn begun(program: &[[u8; 4]]) -> (u32, u32) {
 
 fn begun_with(record: &[u8]) -> (u32, u32) {
     numbers(engine().begin(0, 0, record))
-}
-
-fn numbers<T>(result: Result<T, Refusal>) -> (u32, u32) {
-    result.err().map_or((0, 0), |no| (no.number, no.place))
 }
 
 fn set_up(record: &[u8]) -> (u32, u32) {

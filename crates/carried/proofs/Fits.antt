@@ -3,25 +3,25 @@ use Prim.Native.Nat.{ℕ, zero, suc, _+_, _*_, _^_, _≤_, _<_}
 use native.Mathlib.Omega.{arith}
 use mathlib.Core.Path.{_≡_, refl, subst}
 use mathlib.Core.Bool.{Bool, true, false}
-use mathlib.Core.List.{List, [], _∷_, _++_}
+use mathlib.Core.List.{List, [], _∷_, _++_, append-nil}
 use lib.Dec.{eqb, leb, ltb}
 use lib.ListN.{length, take, drop, length-take, length-drop, length-append, length-map}
 use borrow.Author.Tests.{ltb-false}
 use Rattle.arrays.specs.Fresh.{guardsOf, valuesOf, turnsOf}
 use Rattle.parts.specs.Numbers.{workers, sheets, mostLocks, mostWords, instructions, lastTurn}
-use Rattle.parts.specs.Parts.{wornOf}
+use Rattle.parts.specs.Parts.{registers0, wornOf}
 use Rattle.parts.specs.Pick.{pick, _or_, _isnt_}
-use Rattle.parts.specs.Told.{refuseIf, refusalPlace, firstOf, FirstAt}
+use Rattle.parts.specs.Told.{refuseIf, refusalPlace, onTold, firstOf, FirstAt}
 use Rattle.parts.specs.declared.Instr.{Instr}
 use Rattle.parts.specs.declared.LockWord.{LockWord}
 use Rattle.parts.specs.declared.Refusal.{Refusal}
 use Rattle.parts.specs.declared.Refusal.the-variants.{NoWorker, NoLock, WorkerUnderWay, NotCollected, Length, Kind, Instruction, Guard, LastTurn, NoSheet, WorkerIdle, Range, Buffer, SheetFree, Held, NoWord, CallRecord}
 use Rattle.parts.specs.declared.Told.{Told}
 use Rattle.parts.specs.declared.Told.the-variants.{Accepted, Refused}
-use Rattle.parts.proofs.Order.{first-exactly, neither, not-isnt}
+use Rattle.parts.proofs.Order.{first-exactly, both-pass, neither, not-isnt}
 use Rattle.records.specs.Bytes.{wrongLength, u32sBytes, kindField}
-use Rattle.records.specs.Job.{forms, jobOf, badlyFormed, endsOtherwise, straysAt, noJobKind, outsideKind, formOrder}
-use Rattle.records.proofs.Form.{job-count, form-known, formed}
+use Rattle.records.specs.Job.{forms, jobOf, jobTold, badlyFormed, endsOtherwise, straysAt, noJobKind, outsideKind, formOrder}
+use Rattle.records.proofs.Form.{job-count, form-known, formed, job-formed}
 use Rattle.records.specs.Setup.{setupKind, locksField, wordsField, guardsField, turnsField, setupLength, outside}
 use Rattle.records.proofs.Fours.{u32s-length, code-length, bytes-length}
 use Rattle.engine.specs.Calls.{isFree, writeOf, showTold, showOf, parkTold, parkOf}
@@ -30,8 +30,12 @@ use Rattle.engine.specs.declared.Engine.{Engine}
 use Rattle.engine.specs.declared.WriteTold.{WriteTold}
 use Rattle.calls.specs.Record.{lastCall, callWith, callRecord, recordLength, writeOrder, writeTold, recordedOf}
 use Rattle.calls.proofs.Laws.{record-size, fits as written}
-use Rattle.refusals.specs.Orders.{stateOf, isIdle, isUnderWay, isFinished, codeRows, beginRows, stepRows, collectRows, dropRows, guardRows, turnRows, setupRows, wordRows, lockRows, showRows, isHeld, heldRows, parkRows, Given}
+use Rattle.refusals.specs.Orders.{stateOf, isIdle, isUnderWay, isFinished, codeRows, beginRows, plainRows, stepRows, collectRows, dropRows, guardRows, turnRows, setupRows, wordRows, lockRows, showRows, isHeld, heldRows, parkRows, Given}
 use Rattle.there_and_back.proofs.Park.{wrote}
+use Rattle.plain.specs.Plain.{plainTold, ranTold, plainOf}
+use Rattle.plain.specs.declared.PlainTold.{PlainTold}
+use Rattle.alone.specs.Alone.{aloneOf}
+use Rattle.alone.proofs.Bounds.{from-executed}
 use Rattle.refusals.proofs.Refusals.{exactly}
 use Rattle.carried.specs.Fits.{Fits}
 
@@ -169,6 +173,33 @@ park-below e room =
 none : (rows : List Told) (r : Refusal) → Below 1 rows → Given rows r → refusalPlace r ≡ 0
 none rows r b g = omega (arith, given-below 1 rows r b g)
 
+-- the plain engine: its rows; and a job executes no more instructions than it has
+plain-below : (values guards : List ℕ) (l : ℕ) (rec : List ℕ) → Below (2 ^ 32) (plainRows values guards l rec ++ [])
+unfolding refusalPlace
+plain-below values guards l rec =
+    row (2 ^ 32) (length values isnt length guards or ltb mostWords (length values)) NoWord _ (omega arith) (λ _.
+    row (2 ^ 32) (wrongLength rec) Length _ (omega arith) (λ _.
+    row (2 ^ 32) (noJobKind forms (kindField rec)) Kind _ (omega arith) (λ k.
+    row (2 ^ 32) (outsideKind forms (kindField rec) (length rec)) Length _ (omega arith) (λ h.
+    code-below (2 ^ 32) (jobOf rec) 0 l guards [] (omega (arith, job-most rec k h)) (end (2 ^ 32))))))
+
+plain-taken :
+    (values guards : List ℕ) (l : ℕ) (rec : List ℕ) (said : Bool) (n : ℕ) (t : Told) → plainTold values guards l rec ≡ t →
+    onTold t (ranTold (aloneOf (jobOf rec) values)) (λ r. PlainTold.Refused r) ≡ PlainTold.Ran said n →
+    (jobTold rec l guards ≡ Accepted) × (n ≡ aloneOf (jobOf rec) values .executed)
+unfolding plainTold
+plain-taken values guards l rec said n Accepted e h =
+    (both-pass (refuseIf (length values isnt length guards or ltb mostWords (length values)) NoWord) (jobTold rec l guards) e .1, cc)
+plain-taken values guards l rec said n (Refused r) e h = let z : _≡_ {A = ℕ} 0 1 = cc in absurd (omega arith)
+
+executed-most :
+    (values guards : List ℕ) (l : ℕ) (rec : List ℕ) (said : Bool) (n : ℕ) → plainOf values guards l rec ≡ PlainTold.Ran said n → n ≤ instructions
+unfolding plainOf
+executed-most values guards l rec said n h =
+    let taken = plain-taken values guards l rec said n (plainTold values guards l rec) refl h in
+    let most = job-formed rec l guards (taken .0) .most in
+    omega (arith, taken .1, from-executed zero (jobOf rec) registers0 values 0 .1)
+
 -- the records that show and park write: at most 260 and 390 bytes
 show-size : (e : Engine) (s : ℕ) → length (sheetRecord e s) ≤ 4 + 4 * instructions
 show-size e s =
@@ -251,6 +282,12 @@ fits =
           given-below (2 ^ 32) (beginRows e w l rec) r (begin-below e w l rec) (exactly r .begin e w l rec .0 h);
       setup = λ rec r h. given-below (2 ^ 32) (setupRows rec) r (setup-below rec) (exactly r .setup rec .0 h);
       park = λ e room r h. given-below (2 ^ 32) (parkRows e room) r (park-below e room) (exactly r .park e room .0 h);
+      plain =
+          λ values guards l rec r h.
+          let rows = plainRows values guards l rec in
+          given-below (2 ^ 32) rows r (subst (Below (2 ^ 32)) (append-nil rows) (plain-below values guards l rec))
+          (exactly r .plain values guards l rec .0 h);
+      executed = λ values guards l rec said n h. omega (arith, executed-most values guards l rec said n h);
       step =
           λ e w r h.
           none (stepRows e w) r (worker-below e w _ (one-below (isFinished (stateOf e w)) NotCollected (omega arith)))

@@ -1,5 +1,6 @@
 -- What each of the nine calls tells and leaves, of any numbers that a caller lends: what the contracts of the C interface say, and what
--- the promises of a history of such calls (carried) are about. Last, the writer of a call's record, which is lent no numbers.
+-- the promises of a history of such calls (carried) are about. Last, the writer of a call's record
+-- and the plain engine, which are lent no numbers of a state.
 mod Names
 use Names.*
 use Rattle.cells.specs.Layout.{unpack}
@@ -8,7 +9,8 @@ use Rattle.lent.specs.Calls.{collectNumbers, dropNumbers}
 use Rattle.lent_step.specs.Points.{stepNumbers}
 use Rattle.lent_in.specs.Calls.{setupNumbers, beginNumbers}
 use Rattle.calls.specs.Record.{recordedOf, recordedIn}
-use Rattle.door.specs.Door.{unlessShort, shortReply, toldFields, noAnswer, collectedFields, noWord, wordFields, noLock, lockFields, noBytes, wroteFields}
+use Rattle.plain.specs.Plain.{plainOf, plainLeft}
+use Rattle.door.specs.Door.{unlessShort, shortReply, toldFields, noAnswer, collectedFields, noWord, wordFields, noLock, lockFields, noBytes, wroteFields, plainFields}
 
 abbrev pub setupReply : List ℕ → List ℕ → Reply
 setupReply s rec = unlessShort s shortReply (toldFields (setupOf rec .told))
@@ -64,3 +66,9 @@ recordReply call w l rec buf = wroteFields (recordedOf call w l rec (length buf)
 
 abbrev pub recordBuffer : ℕ → ℕ → ℕ → List ℕ → List ℕ → List ℕ
 recordBuffer call w l rec buf = recordedIn call w l rec buf
+
+abbrev pub plainReply : List ℕ → List ℕ → ℕ → List ℕ → Plain
+plainReply values guards l rec = plainFields (plainOf values guards l rec)
+
+abbrev pub plainValues : List ℕ → List ℕ → ℕ → List ℕ → List ℕ
+plainValues values guards l rec = plainLeft values guards l rec

@@ -57,3 +57,11 @@ noBytes r = record { number = r .number; place = r .place; length = 0 }
 abbrev pub wroteFields : WriteTold → Wrote
 wroteFields (WriteTold.Wrote n) = record { number = 0; place = 0; length = n % 2 ^ 32 }
 wroteFields (WriteTold.Refused r) = noBytes (refusalReply r)
+
+abbrev pub noRun : Reply → Plain
+noRun r = record { number = r .number; place = r .place; answer = 0; executed = 0 }
+
+-- "the answer", as collect would tell it, and "the number of instructions executed", in 32 bits
+abbrev pub plainFields : PlainTold → Plain
+plainFields (PlainTold.Ran said n) = record { number = 0; place = 0; answer = pick said (answerNumber RanYes) (answerNumber RanNo); executed = n % 2 ^ 32 }
+plainFields (PlainTold.Refused r) = noRun (refusalReply r)

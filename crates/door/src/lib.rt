@@ -1,11 +1,11 @@
-// What C can call: the nine calls on numbers that the caller lends, and the writer of a call's record. A reply's number 0 says
-// accepted; any other is a refusal's, with its place. Fewer numbers than a state takes: 22, and nothing is changed.
+// What C can call: the nine calls on numbers that the caller lends, the writer of a call's record, and the plain engine, which is lent
+// the words. A reply's number 0 says accepted; any other is a refusal's, with its place. Fewer numbers than a state takes: 22, and nothing is changed.
 ghost use mathlib.Core.Path.{_≡_};
 ghost use Prim.Native.Nat.{_≤_};
 ghost use lib.ListN.{length};
 ghost use Rattle.engine.specs.Calls.{setupOf, beginOf, stepOf, collectOf, dropOf};
 ghost use Rattle.cells.specs.Layout.{numbers, unpack};
-ghost use Rattle.door.specs.Calls.{setupReply, setupLeft, beginReply, beginLeft, stepReply, stepLeft, collectReply, collectLeft, dropReply, dropLeft, wordReply, lockReply, showReply, showBuffer, parkReply, parkBuffer, recordReply, recordBuffer};
+ghost use Rattle.door.specs.Calls.{setupReply, setupLeft, beginReply, beginLeft, stepReply, stepLeft, collectReply, collectLeft, dropReply, dropLeft, wordReply, lockReply, showReply, showBuffer, parkReply, parkBuffer, recordReply, recordBuffer, plainReply, plainValues};
 
 mod replies;
 
@@ -49,6 +49,14 @@ pub struct Wrote {
     pub number: u32,
     pub place: u32,
     pub length: u32,
+}
+
+#[repr(C)]
+pub struct Plain {
+    pub number: u32,
+    pub place: u32,
+    pub answer: u32,
+    pub executed: u32,
 }
 
 // A fresh state from a setup record; a refused one gives the blank state. Refused: 22, 5, 6, 12.
@@ -185,4 +193,15 @@ pub extern "C" fn chant_record(
 {
     let told = calls::write::record(call, worker, lock, rec, buffer);
     replies::wrote(told)
+}
+
+// A job record run at once on the words' values, with their guards, under any lock number. Refused: 16, 5, 6, 7, 8.
+#[no_mangle]
+pub extern "C" fn chant_plain(values: &mut [u32], guards: &[u8], lock: u32, rec: &[u8]) -> Plain
+    ensures { λ r. ⌜ r ≡ plainReply (now (values .entry)) (now (guards .entry)) lock (now (rec .entry)) ⌝ }
+    ensures { λ _. ⌜ now (values .exit) ≡ plainValues (now (values .entry)) (now (guards .entry)) lock (now (rec .entry)) ⌝ }
+    ensures { λ _. ⌜ now (guards .exit) ≡ now (guards .entry) ⌝ }
+{
+    let told = plain::run(values, guards, lock, rec);
+    replies::ran(told)
 }

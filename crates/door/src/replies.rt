@@ -1,8 +1,12 @@
 // What a call told, as the numbers of a reply: each function is the definition of specs/Door.antt that has its name.
 ghost use mathlib.Core.Path.{_≡_};
-ghost use Rattle.door.specs.Door.{shortReply, refusalReply, toldFields, noAnswer, collectedFields, noWord, wordFields, noLock, lockWordFields, lockFields, noBytes, wroteFields};
+ghost use Rattle.parts.specs.Pick.{pick};
+ghost use Rattle.parts.specs.Told.{answerNumber};
+ghost use Rattle.parts.specs.declared.Answer.the-variants.{RanYes, RanNo};
+ghost use Rattle.door.specs.Door.{shortReply, refusalReply, toldFields, noAnswer, collectedFields, noWord, wordFields, noLock, lockWordFields, lockFields, noBytes, wroteFields, noRun, plainFields};
 use crate::Collected;
 use crate::LockRead;
+use crate::Plain;
 use crate::Reply;
 use crate::WordRead;
 use crate::Wrote;
@@ -10,10 +14,12 @@ use engine::CollectTold;
 use engine::LockTold;
 use engine::WordTold;
 use engine::WriteTold;
+use parts::Answer;
 use parts::Holder;
 use parts::LockWord;
 use parts::Refusal;
 use parts::Told;
+use plain::PlainTold;
 
 // Fewer numbers than a state takes.
 pub fn short() -> Reply
@@ -165,5 +171,40 @@ pub fn wrote(told: WriteTold) -> Wrote
             length: (n % 4294967296) as u32,
         },
         WriteTold::Refused(r) => no_bytes(refusal_reply(r)),
+    }
+}
+
+fn no_run(r: Reply) -> Plain
+    ensures { λ q. ⌜ q ≡ noRun r ⌝ }
+{
+    Plain {
+        number: r.number,
+        place: r.place,
+        answer: 0,
+        executed: 0,
+    }
+}
+
+// The answer of a job that ran.
+fn ran_number(yes: bool) -> u32
+    ensures { λ r. ⌜ r ≡ pick yes (answerNumber RanYes) (answerNumber RanNo) ⌝ }
+{
+    if yes {
+        return Answer::RanYes.number();
+    }
+    Answer::RanNo.number()
+}
+
+pub fn ran(told: PlainTold) -> Plain
+    ensures { λ r. ⌜ r ≡ plainFields told ⌝ }
+{
+    match told {
+        PlainTold::Ran(yes, n) => Plain {
+            number: 0,
+            place: 0,
+            answer: ran_number(yes),
+            executed: (n % 4294967296) as u32,
+        },
+        PlainTold::Refused(r) => no_run(refusal_reply(r)),
     }
 }

@@ -42,7 +42,7 @@ impl Engine {
     }
 
     // Refusals 5 to 8: is this a job for this lock?
-    fn job_told(self, lock: u8, rec: &[u8]) -> Told
+    fn job_told(self, lock: u32, rec: &[u8]) -> Told
         ensures { λ r. ⌜ r ≡ jobTold (now (rec .entry)) lock (guardsOf (wordsOf self)) ⌝ }
     {
         let words = self.word;
@@ -60,7 +60,7 @@ impl Engine {
         if n <= i {
             return Told::Refused(Refusal::NoLock);
         }
-        let told = self.job_told(lock as u8, rec);
+        let told = self.job_told(lock, rec);
         match told {
             Told::Refused(_) => told,
             Told::Accepted => self.room_told(i),

@@ -75,7 +75,7 @@ pub record Completed (K : Rules) (E : Scene) (T : Tale) (i l turn : ℕ) : Type 
   pub words : (q : ℕ) → Guarded K l q → E .word q .value ≡ getD (givesOf (T .won l) (K .values)) q 0
 
 -- a worker that has finished stays
-finished-stays :
+pub finished-stays :
     (K : Rules) (i n : ℕ) (E : Scene) (x : Answer) → E .worker i .state ≡ Finished x → aloneSteps K i n E ≡ E
 unfolding aloneSteps
 finished-stays K i zero E x e = refl

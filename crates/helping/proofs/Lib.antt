@@ -23,3 +23,4 @@ pub mod Begin
 pub mod Over
 pub mod Ranges
 pub mod Help
+pub mod Solo

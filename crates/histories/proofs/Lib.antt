@@ -4,3 +4,4 @@ pub mod simulation
 pub mod demand
 pub mod filled
 pub mod worn
+pub mod plainly

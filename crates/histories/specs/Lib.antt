@@ -2,3 +2,4 @@ pub mod Filling
 pub mod History
 pub mod Filled
 pub mod Worn
+pub mod Plainly

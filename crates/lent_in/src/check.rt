@@ -32,7 +32,7 @@ fn guards_of(s: &[u32]) -> [u8; WORDS]
 }
 
 // Refusals 5 to 8: is this a job for this lock?
-fn job_told(s: &[u32], lock: u8, rec: &[u8]) -> Told
+fn job_told(s: &[u32], lock: u32, rec: &[u8]) -> Told
     requires { ⌜ numbers ≤ length (now s) ⌝ }
     ensures { λ r. ⌜ r ≡ jobTold (now (rec .entry)) lock (guardsOf (wordsOf (unpack (now (s .entry))))) ⌝ }
 {
@@ -64,7 +64,7 @@ fn turn_told(s: &[u32], lock: u32, rec: &[u8]) -> Told
     if n <= i {
         return Told::Refused(Refusal::NoLock);
     }
-    let told = job_told(s, lock as u8, rec);
+    let told = job_told(s, lock, rec);
     match told {
         Told::Refused(_) => told,
         Told::Accepted => worn_told(s, i),

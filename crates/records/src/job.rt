@@ -1,7 +1,7 @@
 // Job records: which are accepted, and how the others are refused.
 ghost use mathlib.Core.Path.{_≡_};
 ghost use Prim.Native.Nat.{_≤_};
-ghost use lib.Dec.{leb, ltb};
+ghost use lib.Dec.{eqb, leb, ltb};
 ghost use lib.ListN.{length};
 ghost use Rattle.parts.specs.Numbers.{instructions};
 ghost use Rattle.parts.specs.Pick.{_or_};
@@ -125,23 +125,29 @@ fn faulty(i: Instr, left: usize) -> bool
     ends_otherwise(i, left)
 }
 
+// A guard is a byte, a lock any number.
+fn is_lock(guard: u8, lock: u32) -> bool
+    ensures { λ r. ⌜ r ≡ eqb guard lock ⌝ }
+{
+    (guard as u32) == lock
+}
+
 // Word w is guarded by another lock, or is no word.
-fn strays(w: u8, lock: u8, guards: &[u8]) -> bool
+fn strays(w: u8, lock: u32, guards: &[u8]) -> bool
     ensures { λ r. ⌜ r ≡ strays w lock (now (guards .entry)) ⌝ }
 {
     let at = w as usize;
     if guards.len() <= at {
         return true;
     }
-    let guard = guards[at];
-    if guard == lock {
+    if is_lock(guards[at], lock) {
         return false;
     }
     true
 }
 
 // "A load, store or cam names a word this lock doesn't guard, or no word."
-pub fn strays_at(i: Instr, lock: u8, guards: &[u8]) -> bool
+pub fn strays_at(i: Instr, lock: u32, guards: &[u8]) -> bool
     ensures { λ r. ⌜ r ≡ straysAt i lock (now (guards .entry)) ⌝ }
 {
     let op = i.op;
@@ -159,7 +165,7 @@ pub fn strays_at(i: Instr, lock: u8, guards: &[u8]) -> bool
 }
 
 // One instruction, which `left` others follow: "7 before 8 there".
-pub fn instr_told(i: Instr, place: usize, left: usize, lock: u8, guards: &[u8]) -> Told
+pub fn instr_told(i: Instr, place: usize, left: usize, lock: u32, guards: &[u8]) -> Told
     ensures { λ r. ⌜ r ≡ instrTold i place left lock (now (guards .entry)) ⌝ }
 {
     if faulty(i, left) {
@@ -185,7 +191,7 @@ pub fn first_instr(s: &[u8]) -> Instr
 }
 
 // The instruction of the first four bytes, at `place`, with the rest of the code after it.
-fn first_told(s: &[u8], place: usize, lock: u8, guards: &[u8]) -> Told
+fn first_told(s: &[u8], place: usize, lock: u32, guards: &[u8]) -> Told
     requires { ⌜ 4 ≤ length (now s) ⌝ }
     ensures { λ r. ⌜ r ≡ firstTold (now (s .entry)) place lock (now (guards .entry)) ⌝ }
 {
@@ -193,7 +199,7 @@ fn first_told(s: &[u8], place: usize, lock: u8, guards: &[u8]) -> Told
 }
 
 // "Then the lowest faulty instruction": `rest` is the code from the instruction at `place` on.
-pub fn code_told(code: &[u8], lock: u8, guards: &[u8]) -> Told
+pub fn code_told(code: &[u8], lock: u32, guards: &[u8]) -> Told
     ensures { λ r. ⌜ r ≡ codeTold (instrsOf (now (code .entry))) 0 lock (now (guards .entry)) ⌝ }
 {
     let mut rest = code;
@@ -262,7 +268,7 @@ fn outside_kind(kind: usize, bytes: usize) -> bool
 }
 
 // The instructions of a job record.
-fn body_told(rec: &[u8], lock: u8, guards: &[u8]) -> Told
+fn body_told(rec: &[u8], lock: u32, guards: &[u8]) -> Told
     requires { ⌜ 4 ≤ length (now rec) ⌝ }
     ensures { λ r. ⌜ r ≡ codeTold (jobOf (now (rec .entry))) 0 lock (now (guards .entry)) ⌝ }
 {
@@ -289,7 +295,7 @@ pub fn form_told(rec: &[u8]) -> Told
 }
 
 // A job record for a lock, with the guards of the words: then the lowest faulty instruction.
-pub fn job_told(rec: &[u8], lock: u8, guards: &[u8]) -> Told
+pub fn job_told(rec: &[u8], lock: u32, guards: &[u8]) -> Told
     ensures { λ r. ⌜ r ≡ jobTold (now (rec .entry)) lock (now (guards .entry)) ⌝ }
 {
     let told = form_told(rec);

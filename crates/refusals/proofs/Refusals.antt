@@ -14,7 +14,11 @@ use Rattle.parts.specs.declared.Refusal.the-variants.{WorkerUnderWay, NotCollec
 use Rattle.parts.specs.declared.Told.{Told}
 use Rattle.parts.specs.declared.Told.the-variants.{Accepted, Refused}
 use Rattle.parts.proofs.Order.{first-exactly}
+use Rattle.records.specs.Job.{jobOf}
 use Rattle.records.specs.Setup.{setupTold}
+use Rattle.alone.specs.Alone.{aloneOf}
+use Rattle.plain.specs.Plain.{plainTold, ranTold, plainOf, plainLeft}
+use Rattle.plain.specs.declared.PlainTold.{PlainTold}
 use Rattle.steps.specs.Worker as worker
 use Rattle.engine.specs.Calls.{outcomeOf, setupOf, beginOf, beginTold, stepOf, stepTold, collectOf, collectTold, dropOf, dropTold, readWordOf, readLockOf, writeOf, bufferOf, showOf, showTold, shownOf, parkOf, parkTold, parkedOf}
 use Rattle.engine.specs.State.{blankOf, wordAt, lockAt, sheetRecord, stateRecord}
@@ -24,9 +28,9 @@ use Rattle.engine.specs.declared.Engine.{Engine}
 use Rattle.engine.specs.declared.LockTold.{LockTold}
 use Rattle.engine.specs.declared.WordTold.{WordTold}
 use Rattle.engine.specs.declared.WriteTold.{WriteTold}
-use Rattle.refusals.specs.Orders.{beginRows, stepRows, collectRows, dropRows, setupRows, wordRows, lockRows, showRows, parkRows, Busy, Given, Exactly, Kept, Refusing}
+use Rattle.refusals.specs.Orders.{beginRows, plainRows, stepRows, collectRows, dropRows, setupRows, wordRows, lockRows, showRows, parkRows, Busy, Given, Exactly, Kept, Refusing}
 use borrow.Author.Tests.{lt-leb}
-use Rattle.refusals.proofs.Rows.{begin-rows, step-rows, collect-rows, drop-rows, setup-rows, show-rows, park-rows}
+use Rattle.refusals.proofs.Rows.{begin-rows, plain-rows, step-rows, collect-rows, drop-rows, setup-rows, show-rows, park-rows}
 
 -- what is told by a call whose told is the first of its rows that refuses
 by-rows : (told : Told) (rows : List Told) (r : Refusal) → told ≡ firstOf rows → told ≡ Refused r ↔ Given rows r
@@ -100,9 +104,17 @@ write-kept :
 write-kept Accepted bytes buf r h = let z : _≡_ {A = ℕ} 0 1 = cc in absurd (omega arith)
 write-kept (Refused s) bytes buf r h = refl
 
+-- the plain engine, by what was told of its tables and its record
+plain-kept :
+    (values guards : List ℕ) (l : ℕ) (rec : List ℕ) (t : Told) (r : Refusal) →
+    onTold t (ranTold (aloneOf (jobOf rec) values)) (λ q. PlainTold.Refused q) ≡ PlainTold.Refused r →
+    onTold t (aloneOf (jobOf rec) values .words) (λ q. values) ≡ values
+plain-kept values guards l rec Accepted r h = let z : _≡_ {A = ℕ} 0 1 = cc in absurd (omega arith)
+plain-kept values guards l rec (Refused s) r h = refl
+
 -- each refusal of each call is given exactly when its row is the first that refuses
 pub exactly : (r : Refusal) → Exactly r
-unfolding beginOf stepOf collectOf dropOf setupOf readWordOf readLockOf showOf parkOf
+unfolding beginOf stepOf collectOf dropOf setupOf readWordOf readLockOf showOf parkOf plainOf
 exactly r =
     record {
       begin = λ e w l rec. by-rows _ (beginRows e w l rec) r (outcome-told e _ _ ∙ begin-rows e w l rec);
@@ -120,11 +132,15 @@ exactly r =
           (λ s h. let z : _≡_ {A = ℕ} 0 1 = cc in absurd (omega arith)) refl;
       show = λ e s room. write-exactly _ (sheetRecord e s) (showRows e s room) r (show-rows e s room);
       park = λ e room. write-exactly _ (stateRecord e) (parkRows e room) r (park-rows e room);
+      plain =
+          λ values guards l rec.
+          by-told PlainTold.Refused (λ s q h. cc) _ (ranTold (aloneOf (jobOf rec) values)) (plainRows values guards l rec) r
+          (λ s h. let z : _≡_ {A = ℕ} 0 1 = cc in absurd (omega arith)) (plain-rows values guards l rec);
     }
 
 -- a refused call gives back the state and the buffer as they came; a refused setup the blank state
 pub refused-state : (r : Refusal) → Kept r
-unfolding beginOf stepOf dropOf setupOf collectOf showOf parkOf shownOf parkedOf
+unfolding beginOf stepOf dropOf setupOf collectOf showOf parkOf shownOf parkedOf plainOf plainLeft
 refused-state r =
     record {
       begin = λ e w l rec h. outcome-kept e (beginTold e w l rec) _ r h;
@@ -134,6 +150,7 @@ refused-state r =
       setup = λ rec h. outcome-kept blankOf (setupTold rec) _ r h;
       show = λ e s buf h. write-kept (showTold e s (length buf)) (sheetRecord e s) buf r h;
       park = λ e buf h. write-kept (parkTold e (length buf)) (stateRecord e) buf r h;
+      plain = λ values guards l rec h. plain-kept values guards l rec (plainTold values guards l rec) r h;
     }
 
 -- an outcome that is refused with r

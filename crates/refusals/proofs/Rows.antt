@@ -18,6 +18,7 @@ use Rattle.parts.specs.declared.Told.the-variants.{Accepted, Refused}
 use Rattle.parts.proofs.Order.{first-cons}
 use Rattle.records.specs.Job.{jobOf, toldBy, codeTold, instrTold}
 use Rattle.records.specs.Setup.{guardsField, locksField, turnsField, wordsField, setupTold, guardsTold, turnsTold}
+use Rattle.plain.specs.Plain.{plainTold}
 use Rattle.steps.specs.Worker as worker
 use Rattle.steps.specs.Worker.{onState}
 use Rattle.steps.specs.declared.State.{State}
@@ -25,7 +26,7 @@ use Rattle.steps.specs.declared.State.the-variants.{Idle, UnderWay, Finished}
 use Rattle.engine.specs.Calls.{beginTold, stepTold, collectTold, dropTold, showTold, parkTold}
 use Rattle.engine.specs.State.{locksOf, wordsOf}
 use Rattle.engine.specs.declared.Engine.{Engine}
-use Rattle.refusals.specs.Orders.{codeRows, beginRows, stepRows, collectRows, dropRows, guardRows, turnRows, setupRows, showRows, heldRows, parkRows, stateOf, isIdle, isUnderWay, isFinished}
+use Rattle.refusals.specs.Orders.{codeRows, beginRows, plainRows, stepRows, collectRows, dropRows, guardRows, turnRows, setupRows, showRows, heldRows, parkRows, stateOf, isIdle, isUnderWay, isFinished}
 
 -- an order within an order, and rows before others
 then-assoc : (t u v : Told) → ((t then u) then v) ≡ (t then (u then v))
@@ -139,3 +140,8 @@ park-rows e room = simp (held-rows (locksOf e) 0, first-behind (heldRows (locksO
 pub show-rows : (e : Engine) (s room : ℕ) → showTold e s room ≡ firstOf (showRows e s room)
 unfolding showTold
 show-rows e s room = refl
+
+pub plain-rows :
+    (values guards : List ℕ) (l : ℕ) (rec : List ℕ) → plainTold values guards l rec ≡ firstOf (plainRows values guards l rec)
+unfolding plainTold toldBy
+plain-rows values guards l rec = simp (first-cons, code-rows (jobOf rec) 0 l guards)

@@ -6,6 +6,7 @@ use Rattle.arrays.specs.Fresh.{guardsOf}
 use Rattle.records.specs.Bytes.{kindField, wrongLength}
 use Rattle.records.specs.Job.{forms, jobOf, badlyFormed, endsOtherwise, straysAt, noJobKind, outsideKind}
 use Rattle.records.specs.Setup.{setupKind, locksField, wordsField, guardsField, turnsField, setupLength, outside}
+use Rattle.plain.specs.Plain.{plainOf, plainLeft}
 use Rattle.steps.specs.Worker.{onState}
 use Rattle.engine.specs.Calls.{setupOf, beginOf, stepOf, collectOf, dropOf, readWordOf, readLockOf, isFree, showOf, shownOf, parkOf, parkedOf}
 use Rattle.engine.specs.State.{blankOf, lockCount, wordCount, locksOf, wordsOf, workerAt, lockAt, freeSheet, programLength}
@@ -32,8 +33,20 @@ codeRows (i ∷ is) place l guards =
     refuseIf (straysAt i l guards) (Guard place) ∷
     codeRows is (place + 1) l guards
 
--- "Order for begin: 1, 3 or 4, 2, 5 (fewer than 4 bytes, or length field other than the slice's length), 6, 5 (not 4 + 4n), then
--- the lowest faulty instruction (7 before 8 there), 9, 10."
+-- of a job record, for a lock: "5 (fewer than 4 bytes, or length field other than the slice's length), 6, 5 (not 4 + 4n), then the lowest
+-- faulty instruction (7 before 8 there)"
+abbrev pub jobRows : List ℕ → ℕ → List ℕ → List Told
+jobRows rec l guards =
+    -- 5: "record length wrong"
+    refuseIf (wrongLength rec) Length ∷
+    -- 6: "kind is not the one this call takes"; request 04: "6 for a kind neither 1 nor 4"
+    refuseIf (noJobKind forms (kindField rec)) Kind ∷
+    -- 5: "not 4 + 4n"; request 04: "5 for a count outside the kind's own range"
+    refuseIf (outsideKind forms (kindField rec) (length rec)) Length ∷
+    -- 7 and 8, each at "its place"
+    codeRows (jobOf rec) 0 l guards
+
+-- "Order for begin: 1, 3 or 4, 2", those of the record, "9, 10."
 abbrev pub beginRows : Engine → ℕ → ℕ → List ℕ → List Told
 beginRows e w l rec =
     -- 1: "worker above 7"
@@ -44,19 +57,18 @@ beginRows e w l rec =
     refuseIf (isFinished (stateOf e w)) NotCollected ∷
     -- 2: "lock not below L"
     refuseIf (leb (lockCount e) l) NoLock ∷
-    -- 5: "record length wrong"
-    refuseIf (wrongLength rec) Length ∷
-    -- 6: "kind is not the one this call takes"; request 04: "6 for a kind neither 1 nor 4"
-    refuseIf (noJobKind forms (kindField rec)) Kind ∷
-    -- 5: "not 4 + 4n"; request 04: "5 for a count outside the kind's own range"
-    refuseIf (outsideKind forms (kindField rec) (length rec)) Length ∷
-    -- 7 and 8, each at "its place"
-    codeRows (jobOf rec) 0 l (guardsOf (wordsOf e)) ++
+    jobRows rec l (guardsOf (wordsOf e)) ++
     -- 9: "begin: the lock is free with turn 67,108,864"
     (refuseIf (wornOf (lockAt e l)) LastTurn ∷
     -- 10: "begin: no free sheet"
     refuseIf (leb sheets (freeSheet e)) NoSheet ∷
     [])
+
+-- request 05, the plain engine: "16 if the tables differ in length or exceed 64, then 5, 6, 7 and 8 as in begin"
+abbrev pub plainRows : List ℕ → List ℕ → ℕ → List ℕ → List Told
+plainRows values guards l rec =
+    refuseIf (length values isnt length guards or ltb mostWords (length values)) NoWord ∷
+    jobRows rec l guards
 
 -- "Step: 1, 11, 4."
 abbrev pub stepRows : Engine → ℕ → List Told
@@ -165,6 +177,9 @@ pub record Exactly (r : Refusal) : Type 0 where
   pub readLock : (e : Engine) (l : ℕ) → readLockOf e l ≡ LockTold.Refused r ↔ Given (lockRows e l) r
   pub show : (e : Engine) (s room : ℕ) → showOf e s room ≡ WriteTold.Refused r ↔ Given (showRows e s room) r
   pub park : (e : Engine) (room : ℕ) → parkOf e room ≡ WriteTold.Refused r ↔ Given (parkRows e room) r
+  pub plain :
+      (values guards : List ℕ) (l : ℕ) (rec : List ℕ) →
+      plainOf values guards l rec ≡ PlainTold.Refused r ↔ Given (plainRows values guards l rec) r
 
 -- "A refusal returns its number and place, the state as it came (setup: the blank one), and not one byte of the buffer altered."
 pub record Kept (r : Refusal) : Type 0 where
@@ -177,6 +192,9 @@ pub record Kept (r : Refusal) : Type 0 where
   pub show :
       (e : Engine) (s : ℕ) (buf : List ℕ) → showOf e s (length buf) ≡ WriteTold.Refused r → shownOf e s buf ≡ buf
   pub park : (e : Engine) (buf : List ℕ) → parkOf e (length buf) ≡ WriteTold.Refused r → parkedOf e buf ≡ buf
+  pub plain :
+      (values guards : List ℕ) (l : ℕ) (rec : List ℕ) → plainOf values guards l rec ≡ PlainTold.Refused r →
+      plainLeft values guards l rec ≡ values
 
 -- a refusal of this number and place
 abbrev pub Refuses : Told → ℕ → ℕ → Type 0

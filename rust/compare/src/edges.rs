@@ -10,7 +10,7 @@ use second::script::{Call, LONGEST_BYTES};
 pub const SETUP: [u8; 15] = [15, 0, 2, 0, 1, 1, 0, 5, 0, 0, 0, 0, 0, 0, 0];
 /// Lengths around those that the length field can say, and that it says
 /// wrapped around: as if they were 8, 15 or 260.
-const LENGTHS: [usize; 10] = [
+pub const LENGTHS: [usize; 10] = [
     0, 3, 4, 65_534, 65_535, 65_536, 65_540, 65_544, 65_551, 65_796,
 ];
 
@@ -27,7 +27,7 @@ pub fn compare(pair: &mut Pair) -> Result<(), Difference> {
 
 /// A record of this kind and length, all zeros otherwise; cut off where it is
 /// shorter than its head. All of a job's instructions halt.
-fn zeros(kind: u8, length: usize) -> Vec<u8> {
+pub fn zeros(kind: u8, length: usize) -> Vec<u8> {
     let [low, high] = (length as u16).to_le_bytes();
     let mut record = vec![low, high, kind, 0];
     record.resize(length, 0);

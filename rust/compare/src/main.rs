@@ -1,35 +1,51 @@
 //! Holds the second program against the engine's archive in one process:
 //! N random calls from SEED on, every answer, refusal, place, word, lock,
-//! buffer and call record equal. The same SEED makes the same calls.
+//! buffer and call record equal; or, of their plain engines, N random runs,
+//! every answer, refusal, place, count and value. The same SEED makes the same
+//! calls or runs.
 
+use compare::plain;
 use std::process::ExitCode;
 use std::time::Instant;
 
-/// The seed and the number of calls that the command line asks for.
-fn asked() -> Option<(u64, u64)> {
-    let mut words = std::env::args().skip(1);
-    let seed = words.next()?.parse().ok()?;
-    let calls = words.next()?.parse().ok()?;
-    words.next().is_none().then_some((seed, calls))
+/// The seed and the number of calls or runs that the command line asks for.
+fn asked(words: &[String]) -> Option<(u64, u64)> {
+    match words {
+        [seed, times] => Some((seed.parse().ok()?, times.parse().ok()?)),
+        _ => None,
+    }
 }
 
 fn main() -> ExitCode {
-    let Some((seed, calls)) = asked() else {
-        eprintln!("usage: compare SEED N");
+    let words: Vec<String> = std::env::args().skip(1).collect();
+    let (of_plain, words) = match words.split_first() {
+        Some((first, others)) if first == "plain" => (true, others),
+        _ => (false, &words[..]),
+    };
+    let Some((seed, times)) = asked(words) else {
+        eprintln!("usage: compare [plain] SEED N");
         return ExitCode::from(2);
     };
     let started = Instant::now();
     let told = |done: u64| {
+        let what = if of_plain { "plain runs" } else { "calls" };
         let seconds = started.elapsed().as_secs();
-        eprintln!("compare: {done} of {calls} calls equal so far, {seconds} s");
+        eprintln!("compare: {done} of {times} {what} equal so far, {seconds} s");
     };
-    match compare::compare(seed, calls, None, told) {
-        Ok(pair) => {
-            println!("compare: {}, all equal", pair.counts());
+    let compared = match of_plain {
+        true => plain::compare(seed, times, &plain::archive, told),
+        false => match compare::compare(seed, times, None, told) {
+            Ok(pair) => Ok(format!("{}, all equal", pair.counts())),
+            Err(difference) => Err(format!("seed {seed}, {difference}")),
+        },
+    };
+    match compared {
+        Ok(equal) => {
+            println!("compare: {equal}");
             ExitCode::SUCCESS
         }
         Err(difference) => {
-            println!("compare: seed {seed}, {difference}");
+            println!("compare: {difference}");
             ExitCode::FAILURE
         }
     }

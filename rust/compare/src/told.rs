@@ -5,8 +5,9 @@ use chantgarden::lent::{self, Collected, Lock, Reply, Word, Wrote};
 use second::engine::{Engine, Refusal};
 use second::script::Call;
 
-/// Bytes before and after a lent buffer; no call touches them.
-const AROUND: usize = 16;
+/// Bytes before and after a lent buffer, and values before and after a lent
+/// table; no call touches them.
+pub const AROUND: usize = 16;
 
 /// An engine by its nine calls, with the answers as the header has them.
 pub trait Calls {
@@ -136,7 +137,7 @@ impl Calls for Second {
 }
 
 /// Number and place, and what an accepted call gave.
-fn parts<T>(result: Result<T, Refusal>) -> (u32, u32, Option<T>) {
+pub fn parts<T>(result: Result<T, Refusal>) -> (u32, u32, Option<T>) {
     match result {
         Ok(given) => (0, 0, Some(given)),
         Err(Refusal { number, place }) => (number, place, None),

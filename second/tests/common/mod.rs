@@ -1,6 +1,7 @@
 //! What the tests share: the records of document 01's table and small makers.
 #![allow(dead_code)]
 
+use second::engine::Refusal;
 use second::script::{self, Call};
 
 /// Setup S: two locks, words 5 and 9 under lock 0, word 7 under lock 1.
@@ -9,6 +10,14 @@ pub const S: &str = "1D00020002030000010500000009000000070000000000000000000000"
 pub const A: &str = "180001000200000001010100050001000300000000010000";
 /// Job B: are words 0 and 1 equal?
 pub const B: &str = "180001000200000002010100070001010000000000010000";
+
+/// The halt that answers no.
+pub const HALT: [u8; 4] = [0, 0, 0, 0];
+
+/// The refusal's number and place; (0, 0) where there is none.
+pub fn numbers<T>(result: Result<T, Refusal>) -> (u32, u32) {
+    result.err().map_or((0, 0), |no| (no.number, no.place))
+}
 
 /// The bytes of a record that is written in hexadecimal.
 pub fn bytes(record: &str) -> Vec<u8> {
@@ -36,7 +45,7 @@ pub fn job_of_kind(kind: u16, program: &[[u8; 4]]) -> Vec<u8> {
 /// halt that answers no.
 pub fn repeated(instruction: [u8; 4], count: usize) -> Vec<[u8; 4]> {
     let mut program = vec![instruction; count - 1];
-    program.push([0, 0, 0, 0]);
+    program.push(HALT);
     program
 }
 

@@ -4,6 +4,7 @@ pub use mathlib.Core.List.{List}
 pub use lib.ListN.{length}
 pub use Rattle.door.specs.declared.Collected.{Collected}
 pub use Rattle.door.specs.declared.LockRead.{LockRead}
+pub use Rattle.door.specs.declared.Plain.{Plain}
 pub use Rattle.door.specs.declared.Reply.{Reply}
 pub use Rattle.door.specs.declared.WordRead.{WordRead}
 pub use Rattle.door.specs.declared.Wrote.{Wrote}

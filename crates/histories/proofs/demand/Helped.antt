@@ -2,12 +2,14 @@
 -- accepted of every idle worker with every valid job, and the steps after it are those of the theory's lone helper.
 use Prim.Native.Nat.{ℕ, zero, suc, _<_}
 use mathlib.Core.Path.{_≡_, refl, sym, ap, _∙_, subst}
+use mathlib.Core.Bool.{false}
 use mathlib.Core.List.{List, _∷_}
 use borrow.Author.Tests.{lt-leb, eq-eqb}
 use Rattle.parts.specs.Numbers.{workers, sheets, instructions, helpSteps}
 use Rattle.parts.specs.Parts.{wornOf}
 use Rattle.parts.specs.declared.Holder.the-variants.{By}
 use Rattle.parts.specs.declared.Instr.{Instr}
+use Rattle.parts.specs.declared.LockWord.{LockWord}
 use Rattle.parts.specs.declared.Refusal.the-variants.{NotCollected, WorkerIdle}
 use Rattle.parts.specs.declared.Told.the-variants.{Accepted, Refused}
 use Rattle.arrays.specs.Fresh.{guardsOf}
@@ -44,7 +46,7 @@ use Rattle.histories.proofs.map.Steps.{step-is, begin-is}
 told-by : (e : Engine) (w : ℕ) → w < workers → stepTold e w ≡ steps.stepByState (workerAt e w)
 told-by e w h = rw (lt-leb workers w h)
 
-told-in :
+pub told-in :
     (e : Engine) (w : ℕ) → w < workers → (t : State) → workerAt e w .state ≡ t →
     stepTold e w ≡ steps.onState t (Refused WorkerIdle) (λ p. Accepted) (λ y. Refused NotCollected)
 unfolding steps.stepByState
@@ -91,30 +93,34 @@ alone-is K x s w h (suc n) =
     alone-is K (thenOf x (Step w)) (standing-then K x (Step w) s tt) w h n ∙
     ap (aloneSteps K w n) (ap sceneOf (state-then x (Step w)) ∙ onward-is K x s w h)
 
--- every idle worker may begin on a held lock, with every valid job
-may-begin :
-    (x : Sofar) → Good (x .state) → (w l s : ℕ) (rec : List ℕ) → l < lockCount (x .state) →
-    lockAt (x .state) l .holder ≡ By s → w < workers → workerAt (x .state) w .state ≡ Idle →
+-- every idle worker may begin on a lock that isn't worn, with every valid job
+pub may-begin :
+    (x : Sofar) → Good (x .state) → (w l : ℕ) (rec : List ℕ) → l < lockCount (x .state) →
+    wornOf (lockAt (x .state) l) ≡ false → w < workers → workerAt (x .state) w .state ≡ Idle →
     jobTold rec l (guardsOf (wordsOf (x .state))) ≡ Accepted → Begins (x .state) w l rec
-unfolding steps.beginByState wornOf
-may-begin x g w l s rec b h k i j =
+unfolding steps.beginByState
+may-begin x g w l rec b h k i j =
     record {
       worker = k;
       idle = rw i;
       lock = b;
       job = j;
-      worn = rw h;
+      worn = h;
       sheet = free-sheet (x .state) g w k i;
     }
 
-told-accepted : (e : Engine) (w l : ℕ) (rec : List ℕ) → Begins e w l rec → beginTold e w l rec ≡ Accepted
+held-not-worn : (x : LockWord) (s : ℕ) → x .holder ≡ By s → wornOf x ≡ false
+unfolding wornOf
+held-not-worn x s h = rw h
+
+pub told-accepted : (e : Engine) (w l : ℕ) (rec : List ℕ) → Begins e w l rec → beginTold e w l rec ≡ Accepted
 unfolding beginTold
 told-accepted e w l rec b =
     rw
     (lt-leb workers w (b .worker), b .idle, lt-leb (lockCount e) l (b .lock), b .job, b .worn, lt-leb sheets (freeSheet e) (b .sheet))
 
 -- the state after the begin and n steps, in the theory's words
-helped-is :
+pub helped-is :
     (K : Rules) (x : Sofar) → Standing K x → (w l : ℕ) (rec : List ℕ) → AllBytes rec → Begins (x .state) w l rec → (n : ℕ) →
     sceneOf (follow x (Begin w l rec ∷ past.steps n w) .state) ≡
     aloneSteps K w n (machineBegun (sceneOf (x .state)) w l (jobOf rec) (freeSheet (x .state)))
@@ -135,7 +141,7 @@ pub completed :
     history.Completed e₀ x w l rec
 completed e₀ u₀ x s w l h rec below held seat idle bytes job =
     let K = rulesOf e₀ in
-    let b = may-begin x (s .good) w l h rec below held seat idle job in
+    let b = may-begin x (s .good) w l rec below (held-not-worn (lockAt (x .state) l) h held) seat idle job in
     let E = sceneOf (x .state) in
     let D = machineBegun E w l (jobOf rec) (freeSheet (x .state)) in
     let T = beginTale (taleOf x) w l (jobOf rec) in

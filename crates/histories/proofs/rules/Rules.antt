@@ -57,10 +57,10 @@ use Rattle.histories.proofs.rules.Spare.{spare-past}
 use Rattle.ranges.proofs.Gave.{good-past}
 
 -- the words that there are: how many, and each is the one in its place
-words-length : (e : Engine) → Good e → length (wordsOf e) ≡ wordCount e
+pub words-length : (e : Engine) → Good e → length (wordsOf e) ≡ wordCount e
 words-length e g = length-take-le (wordCount e) (e .word) (omega (arith, g .lengths .word, g .numbers .words))
 
-words-at : (e : Engine) (q : ℕ) → q < wordCount e → getD (wordsOf e) q word0 ≡ wordAt e q
+pub words-at : (e : Engine) (q : ℕ) → q < wordCount e → getD (wordsOf e) q word0 ≡ wordAt e q
 words-at e q h = getD-take (wordCount e) (e .word) q word0 h
 
 -- past what was laid over blanks the blanks stand

@@ -26,3 +26,4 @@ pub use Rattle.engine.specs.declared.LockTold.{LockTold}
 pub use Rattle.engine.specs.declared.Outcome.{Outcome}
 pub use Rattle.engine.specs.declared.WordTold.{WordTold}
 pub use Rattle.engine.specs.declared.WriteTold.{WriteTold}
+pub use Rattle.plain.specs.declared.PlainTold.{PlainTold}

@@ -10,7 +10,6 @@ lock-told-spec =
     (tie.spec
     (λ c κs. search needs)
     (λ c. search (order, laws, calls, orders) depth 8)
-    (λ c. search needs)
     (λ c κs. search needs)
     (λ c. search needs)
     (λ c. search needs)

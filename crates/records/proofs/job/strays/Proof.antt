@@ -1,6 +1,6 @@
 -- Each return is what the definition picks on the way that led there.
 use borrow.Author.Needs.{needs}
-use Rattle.parts.proofs.Laws.{laws}
+use Rattle.parts.proofs.Laws.{calls, laws}
 use Rattle.records.proofs.job.strays.Statement.{statement}
 use Rattle.records.proofs.job.strays.Tie as tie
 
@@ -8,7 +8,8 @@ pub strays-spec : {M : Type 1} → statement M
 strays-spec =
     tie.close
     (tie.spec
-    (λ c. search laws depth 8)
+    (λ c. search (laws, calls) depth 8)
     (λ c. search needs)
-    (λ c. search laws depth 8)
-    (λ c. search laws depth 8))
+    (λ c κs. search needs)
+    (λ c. search (laws, calls) depth 8)
+    (λ c. search (laws, calls) depth 8))
