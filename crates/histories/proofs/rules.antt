@@ -4,3 +4,5 @@ pub mod Spare
 pub mod Room
 pub mod Guards
 pub mod Rules
+pub mod Used
+pub mod Full

@@ -3,3 +3,4 @@ pub mod History
 pub mod Filled
 pub mod Worn
 pub mod Plainly
+pub mod Used

@@ -22,6 +22,8 @@ use Rattle.steps.specs.declared.State.{State}
 use Rattle.steps.specs.declared.State.the-variants.{Idle, UnderWay, Finished}
 use Rattle.steps.specs.declared.Worker.{Worker}
 use Rattle.ranges.proofs.Frame.{pick-all, state-all, below-or-not}
+use Rattle.histories.specs.Filled.{sumOf}
+use Rattle.histories.specs.Used.{usedOf, mostUsed}
 use Rattle.histories.proofs.rules.Spare.{any-append, or-false}
 
 -- how many of the numbers have it
@@ -74,6 +76,21 @@ pigeon xs n all = omega (arith, below n (λ j h. all j h), tally-most (λ x. ltb
     below (suc m) h =
         omega
         (arith, below m (λ j l. h j (omega arith)), tally-some (λ x. eqb x m) xs (h m (omega arith)), tally-next m xs)
+
+-- of the numbers 0 .. n - 1, a list has no more in it than it is long
+in-list : (xs : List ℕ) (n : ℕ) → usedOf (λ s. anyOf (λ x. eqb x s) xs) n ≤ length xs
+unfolding sumOf
+in-list xs n = omega (arith, below n, tally-most (λ x. ltb x n) xs)
+  where
+    below : (m : ℕ) → usedOf (λ s. anyOf (λ x. eqb x s) xs) m ≤ tally (λ x. ltb x m) xs
+    below zero = omega arith
+    below (suc m) = go (anyOf (λ x. eqb x m) xs) refl (below m)
+      where
+        go :
+            (b : Bool) → anyOf (λ x. eqb x m) xs ≡ b → usedOf (λ s. anyOf (λ x. eqb x s) xs) m ≤ tally (λ x. ltb x m) xs →
+            pick b 1 0 + usedOf (λ s. anyOf (λ x. eqb x s) xs) m ≤ tally (λ x. ltb x (suc m)) xs
+        go true e h = omega (arith, tally-some (λ x. eqb x m) xs e, tally-next m xs)
+        go false e h = omega (arith, tally-next m xs)
 
 -- the numbers that the elements of a list name
 gather : {A : Type 0} → (A → List ℕ) → List A → List ℕ
@@ -166,10 +183,28 @@ used-is locks ks s =
     let all = any-append is (heldIn locks) (gather keptBy ks) in
     cc
 
+-- so many are named and kept where one worker is idle
+all-most :
+    (locks : List LockWord) (ks : List Worker) (d : Worker) (w : ℕ) → w < length ks → getD ks w d .state ≡ Idle →
+    length (heldIn locks ++ gather keptBy ks) ≤ mostUsed (length locks) (length ks)
+all-most locks ks d w h i =
+    let held = gather-most 1 (λ (l : LockWord). namedBy (l .holder)) locks (λ l. named-most (l .holder)) in
+    let kept = gather-but 2 keptBy ks d w kept-most h (kept-none (getD ks w d) i) in
+    omega (arith, length-append (heldIn locks) (gather keptBy ks))
+
+pub used-most :
+    (locks : List LockWord) (ks : List Worker) (d : Worker) (n w : ℕ) → w < length ks → getD ks w d .state ≡ Idle →
+    usedOf (inUseOf locks ks) n ≤ mostUsed (length locks) (length ks)
+used-most locks ks d n w h i =
+    let xs = heldIn locks ++ gather keptBy ks in
+    let same : usedOf (inUseOf locks ks) n ≡ usedOf (λ s. anyOf (λ x. eqb x s) xs) n =
+    ap (λ (f : ℕ → Bool). usedOf f n) (λ j s. used-is locks ks s j) in
+    omega (arith, same, in-list xs n, all-most locks ks d w h i)
+
 -- with more sheets than the locks name and all workers but one keep, one of the sheets is free
 pub room :
     (locks : List LockWord) (ks : List Worker) (d : Worker) (n w : ℕ) → w < length ks → getD ks w d .state ≡ Idle →
-    length locks + 2 * length ks < n + 2 → lowestOf (inUseOf locks ks) 0 n < n
+    mostUsed (length locks) (length ks) < n → lowestOf (inUseOf locks ks) 0 n < n
 room locks ks d n w h i few = ⊎-elim (λ q. q) (λ q. absurd (full q)) (below-or-not (lowestOf (inUseOf locks ks) 0 n) n)
   where
     full : n ≤ lowestOf (inUseOf locks ks) 0 n → ⊥
@@ -177,6 +212,4 @@ room locks ks d n w h i few = ⊎-elim (λ q. q) (λ q. absurd (full q)) (below-
         let many =
         pigeon (heldIn locks ++ gather keptBy ks) n
         (λ j l. sym (used-is locks ks j) ∙ lowest-is (inUseOf locks ks) 0 n .below j (omega arith) (omega arith)) in
-        let held = gather-most 1 (λ (l : LockWord). namedBy (l .holder)) locks (λ l. named-most (l .holder)) in
-        let kept = gather-but 2 keptBy ks d w kept-most h (kept-none (getD ks w d) i) in
-        omega (arith, length-append (heldIn locks) (gather keptBy ks))
+        omega (arith, all-most locks ks d w h i)

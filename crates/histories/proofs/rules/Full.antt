@@ -1,0 +1,59 @@
+-- Request 06's bound is reached: a history of calls after which 30 sheets are in use and a worker begins.
+use mathlib.Core.Path.{_≡_, refl}
+use mathlib.Core.List.{List, [], _∷_, _++_}
+use Rattle.arrays.specs.Fresh.{wordsFrom}
+use Rattle.parts.specs.Instr.{asksOf, followsOf, wordOf}
+use Rattle.parts.specs.Lay.{lay}
+use Rattle.parts.specs.Parts as parts
+use Rattle.parts.specs.Parts.{committedOf, holdsOf, isFirst, registerOf, withRegister, wornOf}
+use Rattle.parts.specs.declared.Told.the-variants.{Accepted}
+use Rattle.records.specs.Bytes.{u32sOf}
+use Rattle.records.specs.Job.{badlyFormed, codeTold, instrTold, instrsOf, toldBy, straysAt}
+use Rattle.records.specs.Setup.{guardsTold, setupTold, turnsTold}
+use Rattle.sheets.specs.Sheets.{anyOf, inUseOf, lowestOf}
+use Rattle.steps.specs.Places.{helpedOf, spotOf}
+use Rattle.steps.specs.Try as try
+use Rattle.steps.specs.Worker as worker
+use Rattle.steps.specs.declared.State.the-variants.{Idle}
+use Rattle.engine.specs.Step.{placesOf, putAt, viewAt}
+use Rattle.engine.specs.Calls.{beginOf, beginTold, begunOf, collectOf, dropOf, freshOf, setupOf, stepOf}
+use Rattle.engine.specs.State.{blankOf, workerAt, inUse, freeSheet}
+use Rattle.past.specs.Past.{Call, Begin, Step, Drop, Collect, after, afterAll}
+use lib.ListN.{replicate}
+use Prim.Native.Nat.{ℕ}
+use Rattle.parts.specs.Numbers.{sheets}
+use Rattle.engine.specs.declared.Engine.{Engine}
+use Rattle.histories.specs.Filled.{sumOf}
+use Rattle.histories.specs.Used.{usedOf}
+
+-- 16 locks, one word; a job of one halt
+unfoldable pub setup16 : List ℕ
+setup16 = 0x4B ∷ 0x00 ∷ 0x02 ∷ 0x00 ∷ 0x10 ∷ 0x01 ∷ replicate 69 0
+
+unfoldable pub halting : List ℕ
+halting = 0x08 ∷ 0x00 ∷ 0x01 ∷ 0x00 ∷ 0x00 ∷ 0x01 ∷ 0x00 ∷ 0x00 ∷ []
+
+-- worker 0 wins a lock and is dropped
+abbrev won : ℕ → List Call
+won l = Begin 0 l halting ∷ Step 0 ∷ Step 0 ∷ Drop 0 ∷ []
+
+-- worker w sees that sheet at lock 0 and stands still; worker 0 helps it to its end, and lock 0 is free again
+abbrev seen : ℕ → List Call
+seen w = won 0 ++ (Begin w 0 halting ∷ Step w ∷ Begin 0 0 halting ∷ Step 0 ∷ Step 0 ∷ Step 0 ∷ Step 0 ∷ Collect 0 ∷ [])
+
+-- seven workers have one own sheet and one helped that no lock names, and all 16 locks are held
+unfoldable pub full : Engine
+full =
+    afterAll (setupOf setup16 .engine)
+    (seen 1 ++ seen 2 ++ seen 3 ++ seen 4 ++ seen 5 ++ seen 6 ++ seen 7 ++ won 0 ++ won 1 ++ won 2 ++ won 3 ++ won 4 ++ won 5 ++
+    won 6 ++ won 7 ++ won 8 ++ won 9 ++ won 10 ++ won 11 ++ won 12 ++ won 13 ++ won 14 ++ won 15)
+
+pub record Full : Type 0 where
+  pub idle : workerAt full 0 .state ≡ Idle
+  pub thirty : usedOf (inUse full) sheets ≡ 30
+  pub next : freeSheet full ≡ 30
+  pub begun : beginOf full 0 0 halting .told ≡ Accepted
+
+pub thirty-used : Full
+unfolding wordsFrom asksOf followsOf wordOf lay parts.grabOf parts.releaseOf parts.swapOf committedOf holdsOf isFirst worker.countedOf registerOf withRegister wornOf u32sOf badlyFormed codeTold instrTold instrsOf toldBy straysAt guardsTold setupTold turnsTold anyOf inUseOf lowestOf helpedOf spotOf try.answerOf try.commitStep try.effectOf try.followStep try.grabStep try.lookAgainStep try.lookStep try.markStep try.readMarkStep try.readStep try.releaseStep try.swapStep worker.beganOf worker.beginByState worker.collectByState worker.collectedOf worker.dropByState worker.droppedOf worker.stepByState beginOf beginTold begunOf collectOf dropOf freshOf setupOf stepOf blankOf placesOf putAt viewAt after afterAll sumOf setup16 halting full
+thirty-used = record { idle = refl; thirty = refl; next = refl; begun = refl }
