@@ -1,5 +1,5 @@
 -- By what lent calls tell (`carried`) and the table of the calls by value (tables): lists of 6,724 numbers are not computed.
-use Prim.Native.Nat.{ℕ, zero, suc, _-_, _%_, _^_, _≤_}
+use Prim.Native.Nat.{ℕ, _-_, _%_, _^_, _≤_}
 use native.Mathlib.Omega.{arith}
 use mathlib.Core.Path.{_≡_, refl, ap, _∙_}
 use mathlib.Core.List.{List, [], _∷_, _++_}
@@ -16,6 +16,7 @@ use Rattle.engine.specs.declared.LockTold.{LockTold}
 use Rattle.engine.specs.declared.WordTold.{WordTold}
 use Rattle.door.specs.Calls.{beginReply}
 use Rattle.door.specs.Door.{refusalReply, toldFields, collectedFields, wordFields, lockFields}
+use Rattle.histories.proofs.plainly.Plainly.{steps-records}
 use Rattle.past.specs.Past.{Call, Begin, Step, Collect, Drop, ReadWord, ReadLock, Show, Park, AllRecords, afterAll, steps}
 use Rattle.refusals.specs.Orders.{Refuses}
 use Rattle.tables.specs.Table.{setupS, jobA, jobSkipping, fresh, on, Answers, End, Ends, Stands, callsC, callsD, callsE, callsG, callsH}
@@ -31,11 +32,6 @@ unfolding zeros
 wide = omega (arith, length-replicate {A = ℕ} numbers 0)
 
 -- every record of the rows' histories is a string of bytes
-steps-records : (n w : ℕ) → AllRecords (steps n w)
-unfolding AllRecords
-steps-records zero w = tt
-steps-records (suc n) w = steps-records n w
-
 both-records : (a b : List Call) → AllRecords a → AllRecords b → AllRecords (a ++ b)
 unfolding AllRecords
 both-records [] b h k = k

@@ -4,7 +4,6 @@ use mathlib.Core.Bool.{Bool, true, false}
 use mathlib.Core.List.{List}
 use mathlib.Core.Path.{_≡_, refl, sym, ap, _∙_, subst}
 use native.Mathlib.Omega.{arith}
-use borrow.Author.Tests.{eq-eqb, ne-eqb}
 use lib.Dec.{eqb}
 use Rattle.parts.specs.Numbers.{workers, instructions, helpSteps}
 use Rattle.parts.specs.Parts.{lock0}
@@ -43,7 +42,7 @@ use Rattle.histories.proofs.map.Steps.{step-is}
 use Rattle.histories.proofs.rules.Guards.{holder-each}
 use Rattle.histories.proofs.rules.Rules.{fresh-is}
 use Rattle.histories.proofs.simulation.Follows.{KeptBy, past-keeps}
-use Rattle.histories.proofs.simulation.Pieces.{worker-put, worker-begun, worker-stepped, worker-here}
+use Rattle.histories.proofs.simulation.Pieces.{found-first, found-later, worker-put, worker-begun, worker-stepped, worker-here}
 use Rattle.histories.proofs.simulation.Standing.{Standing}
 
 -- where the Look found a holder
@@ -104,14 +103,11 @@ module _ (K : Rules) (x : Sofar) (s : Standing K x) (t : AllSoon K x) (w : ℕ) 
   abbrev n : ℕ
   n = x .steps w
 
-  -- what the Look found, after the first step and after a later one
-  found-first : n ≡ 0 → foundBy x w ≡ lockAt e (k .lock)
-  found-first z =
+  -- what the Look finds is the lock that the worker tries
+  found-now : n ≡ 0 → foundBy x w ≡ lockAt e (k .lock)
+  found-now z =
       let named = subst (Named K (taleOf x) (viewOf E (s .next .st)) (x .tries w) k) q (s .next .ok .named w) in
-      ap (λ (b : Bool). pick b (lockAt e (x .tries w .lock)) (x .found w)) (eq-eqb n 0 z) ∙ ap (λ (l : ℕ). lockAt e l) (named .lock)
-
-  found-later : 1 ≤ n → foundBy x w ≡ x .found w
-  found-later z = ap (λ (b : Bool). pick b (lockAt e (x .tries w .lock)) (x .found w)) (ne-eqb n 0 (λ y. omega arith))
+      found-first x w z ∙ ap (λ (l : ℕ). lockAt e l) (named .lock)
 
   -- the state that the step leads to, by the point
   abbrev Now : State → Type 0
@@ -120,7 +116,7 @@ module _ (K : Rules) (x : Sofar) (s : Standing K x) (t : AllSoon K x) (w : ℕ) 
   look-soon : n ≡ 0 → Now (lookTo (K .last) (lockAt e (k .lock)))
   unfolding lookTo
   look-soon z =
-      subst (λ (f : LockWord). Soon (K .most) (lookTo (K .last) (lockAt e (k .lock))) (suc n) (f .holder)) (sym (found-first z))
+      subst (λ (f : LockWord). Soon (K .most) (lookTo (K .last) (lockAt e (k .lock))) (suc n) (f .holder)) (sym (found-now z))
       (go (lockAt e (k .lock) .holder))
     where
       l : LockWord
@@ -141,7 +137,7 @@ module _ (K : Rules) (x : Sofar) (s : Standing K x) (t : AllSoon K x) (w : ℕ) 
 
   -- past Look the found lock stays
   later : (y : State) → 1 ≤ n → Soon (K .most) y (suc n) (x .found w .holder) → Now y
-  later y z g = subst (λ (f : LockWord). Soon (K .most) y (suc n) (f .holder)) (sym (found-later z)) g
+  later y z g = subst (λ (f : LockWord). Soon (K .most) y (suc n) (f .holder)) (sym (found-later x w z)) g
 
   if-less : (f : Holder) (a b : ℕ) → a < b → IfHeld f (n + b ≤ helpSteps (K .most)) → IfHeld f (suc n + a ≤ helpSteps (K .most))
   if-less Free a b c g = tt

@@ -53,7 +53,7 @@ use Rattle.histories.proofs.plainly.Others.{others-there}
 use Rattle.histories.proofs.rules.Rules.{job-fine, words-length, words-at}
 use Rattle.histories.proofs.simulation.Standing.{Standing, standing-follow, standing-past}
 
-steps-records : (n w : ℕ) → AllRecords (past.steps n w)
+pub steps-records : (n w : ℕ) → AllRecords (past.steps n w)
 unfolding AllRecords
 steps-records zero w = tt
 steps-records (suc n) w = steps-records n w

@@ -1,11 +1,15 @@
--- The pieces of the state after an accepted call: one worker is another and the rest are as they were; after a step, so is one lock.
-use Prim.Native.Nat.{ℕ, _<_}
+-- The pieces of the state after an accepted call: one worker is another and the rest are as they were; after a step, so is one lock. And
+-- what a Look found.
+use Prim.Native.Nat.{ℕ, _<_, _≤_}
+use mathlib.Core.Bool.{Bool}
 use mathlib.Core.List.{List}
 use mathlib.Core.Logic.{_≢_}
 use mathlib.Core.Path.{_≡_, ap, _∙_}
 use native.Mathlib.Omega.{arith}
 use Rattle.parts.specs.Numbers.{workers}
+use borrow.Author.Tests.{eq-eqb, ne-eqb}
 use Rattle.parts.specs.Parts.{lock0}
+use Rattle.parts.specs.Pick.{pick}
 use Rattle.parts.specs.declared.LockWord.{LockWord}
 use Rattle.steps.specs.Try.{effectOf}
 use Rattle.steps.specs.Worker.{worker0, lookingOf, beganOf}
@@ -20,6 +24,7 @@ use Rattle.helping.specs.Machine.{put}
 use Rattle.helping.proofs.Put.{put-same, put-other}
 use Rattle.ranges.specs.Good.{Good}
 use Rattle.ranges.proofs.Programs.{looks}
+use Rattle.histories.specs.History.{Sofar, foundBy}
 use Rattle.histories.proofs.map.Put.{set-put}
 
 pub worker-put : (e : Engine) → Good e → (w : ℕ) (k : Worker) → w < workers → (v : ℕ) → workerAt (withWorker e w k) v ≡ put (workerAt e) w k v
@@ -54,3 +59,11 @@ unfolding putAt placesOf
 lock-stepped e g w p l =
     ap (λ (f : ℕ → LockWord). f l)
     (set-put (λ (x : LockWord). x) (e .lock) (placesOf e w p .lock) _ lock0 (omega (arith, g .lengths .lock)))
+
+-- what the Look of a worker's try found, once its first step is made and once a later one is
+pub found-first : (x : Sofar) (w : ℕ) → x .steps w ≡ 0 → foundBy x w ≡ lockAt (x .state) (x .tries w .lock)
+found-first x w z = ap (λ (b : Bool). pick b (lockAt (x .state) (x .tries w .lock)) (x .found w)) (eq-eqb (x .steps w) 0 z)
+
+pub found-later : (x : Sofar) (w : ℕ) → 1 ≤ x .steps w → foundBy x w ≡ x .found w
+found-later x w z =
+    ap (λ (b : Bool). pick b (lockAt (x .state) (x .tries w .lock)) (x .found w)) (ne-eqb (x .steps w) 0 (λ y. omega arith))

@@ -4,7 +4,7 @@ use mathlib.Core.Bool.{Bool, true, false}
 use mathlib.Core.List.{List}
 use mathlib.Core.Path.{_≡_, refl, sym, ap, _∙_, subst}
 use native.Mathlib.Omega.{arith}
-use borrow.Author.Tests.{eqb-true, eq-eqb, ne-eqb}
+use borrow.Author.Tests.{eqb-true}
 use lib.Dec.{eqb}
 use Rattle.parts.specs.Numbers.{workers, mostLocks}
 use Rattle.parts.specs.Parts.{lock0, wornOf}
@@ -31,7 +31,7 @@ use Rattle.histories.specs.History.{Sofar, start, newTry, began, foundBy
 use Rattle.histories.proofs.map.Map.{sceneOf, taleOf}
 use Rattle.histories.proofs.rules.Rules.{fresh-is}
 use Rattle.histories.proofs.simulation.Follows.{KeptBy, past-keeps}
-use Rattle.histories.proofs.simulation.Pieces.{worker-put, worker-begun, worker-stepped}
+use Rattle.histories.proofs.simulation.Pieces.{found-first, found-later, worker-put, worker-begun, worker-stepped}
 use Rattle.histories.proofs.simulation.Standing.{Standing}
 use Rattle.histories.proofs.worn.Looks as looks
 use Rattle.histories.proofs.worn.Looks.{PastLook, OnWay, Later, LooksTo, look-to, later, worn-is, worn0-worn}
@@ -144,13 +144,6 @@ module _ (K : Rules) (x : Sofar) (s : Standing K x) (t : Tried x) (w : ℕ) (p :
       let n : l ≡ workerAt e w .lock % mostLocks = omega arith in
       ap (λ (k : ℕ). lockAt e k) n
 
-  -- what the Look found, after the first step and after a later one
-  found-first : x .steps w ≡ 0 → foundBy x w ≡ lockAt e l
-  found-first n = ap (λ (b : Bool). pick b (lockAt e l) (x .found w)) (eq-eqb (x .steps w) 0 n)
-
-  found-later : 1 ≤ x .steps w → foundBy x w ≡ x .found w
-  found-later n = ap (λ (b : Bool). pick b (lockAt e l) (x .found w)) (ne-eqb (x .steps w) 0 (λ z. omega arith))
-
   -- by the point
   abbrev Now : State → Type 0
   Now y = Looked y (suc (x .steps w)) (wornOf (foundBy x w)) (wornOf (lockAt now l))
@@ -162,15 +155,15 @@ module _ (K : Rules) (x : Sofar) (s : Standing K x) (t : Tried x) (w : ℕ) (p :
   here-look : LooksTo (v .lock) (effectOf Look v .worker .state) → Here Look
   here-look (looks.worn a z) n =
       let worn : wornOf (lockAt e l) ≡ true = ap wornOf lock-is ∙ z in
-      subst Now (sym a) (ap wornOf (found-first n) ∙ worn, ap suc n, still l worn)
+      subst Now (sym a) (ap wornOf (found-first x w n) ∙ worn, ap suc n, still l worn)
   here-look (looks.onward a z) n =
       on-looked (effectOf Look v .worker .state) (x .steps w) (wornOf (foundBy x w)) (wornOf (lockAt now l))
-      (ap wornOf (found-first n ∙ lock-is) ∙ z) a
+      (ap wornOf (found-first x w n ∙ lock-is) ∙ z) a
 
   here-past : (r : Point) → PastLook r → (1 ≤ x .steps w) × (wornOf (x .found w) ≡ false) → Now (effectOf r v .worker .state)
   here-past r h n =
       later-looked (effectOf r v .worker .state) (x .steps w) (wornOf (foundBy x w)) (wornOf (lockAt now l))
-      (ap wornOf (found-later (n .0)) ∙ n .1) (later v r h)
+      (ap wornOf (found-later x w (n .0)) ∙ n .1) (later v r h)
 
   here : (r : Point) → Here r
   here Look n = here-look (look-to v) n
