@@ -6,6 +6,7 @@ use Rattle.parts.specs.Numbers.{workers, mostLocks, sheets}
 use Rattle.parts.specs.Pick.{pick}
 use Rattle.sheets.specs.Sheets.{inUseOf, lowestOf}
 use Rattle.steps.specs.Worker.{worker0}
+use Rattle.engine.specs.Calls.{beginOf}
 use Rattle.engine.specs.State.{lockCount, workerAt, inUse, freeSheet}
 use Rattle.histories.specs.Filled.{sumOf}
 
@@ -32,3 +33,5 @@ pub record Used (e : Engine) : Type 0 where
       (w : ℕ) → w < workers → workerAt e w .state ≡ Idle → usedOf (inUse e) sheets ≤ mostUsed (lockCount e) workers
   pub thirty : mostUsed mostLocks workers ≡ 30
   pub free : (w : ℕ) → w < workers → workerAt e w .state ≡ Idle → freeSheet e < sheets
+  -- "Is "no free sheet" ever said?"
+  pub never : (w l : ℕ) (rec : List ℕ) → beginOf e w l rec .told ≢ Refused NoSheet
