@@ -1,4 +1,4 @@
--- Row a once more, computed on the numbers themselves: a run of the definitions over 6,724 numbers, and by no law but that zeros laid
+-- Row a once more, computed on the numbers themselves: a run of the definitions over 12,868 numbers, and by no law but that zeros laid
 -- over zeros are zeros. So the laws and the definitions agree on a whole history.
 use Prim.Native.Nat.{ℕ}
 use mathlib.Core.Path.{_≡_, refl, sym, ap, _∙_, subst}

@@ -1,4 +1,4 @@
--- By what lent calls tell (`carried`) and the table of the calls by value (tables): lists of 6,724 numbers are not computed.
+-- By what lent calls tell (`carried`) and the table of the calls by value (tables): lists of 12,868 numbers are not computed.
 use Prim.Native.Nat.{ℕ, _-_, _%_, _^_, _≤_}
 use native.Mathlib.Omega.{arith}
 use mathlib.Core.Path.{_≡_, refl, ap, _∙_}

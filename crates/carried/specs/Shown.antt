@@ -1,4 +1,4 @@
--- Document 01's example table on lent numbers: from 6,724 zeros, a lent setup of S and lent calls, as C sees them. So the calls that the
+-- Document 01's example table on lent numbers: from 12,868 zeros, a lent setup of S and lent calls, as C sees them. So the calls that the
 -- promises of `Carried` are about are accepted, refused and run to their end as those by value are.
 use Prim.Native.Nat.{ℕ, _-_}
 use mathlib.Core.Path.{_≡_}

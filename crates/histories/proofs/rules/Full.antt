@@ -1,15 +1,18 @@
 -- Request 06's bound is reached: a history of calls after which 30 sheets are in use and a worker begins.
+use Prim.Native.Nat.{ℕ}
 use mathlib.Core.Path.{_≡_, refl}
 use mathlib.Core.List.{List, [], _∷_, _++_}
-use Rattle.arrays.specs.Fresh.{wordsFrom}
+use lib.ListN.{replicate}
 use Rattle.parts.specs.Instr.{asksOf, followsOf, wordOf}
 use Rattle.parts.specs.Lay.{lay}
 use Rattle.parts.specs.Parts as parts
 use Rattle.parts.specs.Parts.{committedOf, holdsOf, isFirst, registerOf, withRegister, wornOf}
 use Rattle.parts.specs.declared.Told.the-variants.{Accepted}
+use Rattle.parts.specs.Numbers.{sheets}
 use Rattle.records.specs.Bytes.{u32sOf}
 use Rattle.records.specs.Job.{badlyFormed, codeTold, instrTold, instrsOf, toldBy, straysAt}
 use Rattle.records.specs.Setup.{guardsTold, setupTold, turnsTold}
+use Rattle.arrays.specs.Fresh.{wordsFrom}
 use Rattle.sheets.specs.Sheets.{anyOf, inUseOf, lowestOf}
 use Rattle.steps.specs.Places.{helpedOf, spotOf}
 use Rattle.steps.specs.Try as try
@@ -18,11 +21,8 @@ use Rattle.steps.specs.declared.State.the-variants.{Idle}
 use Rattle.engine.specs.Step.{placesOf, putAt, viewAt}
 use Rattle.engine.specs.Calls.{beginOf, beginTold, begunOf, collectOf, dropOf, freshOf, setupOf, stepOf}
 use Rattle.engine.specs.State.{blankOf, workerAt, inUse, freeSheet}
-use Rattle.past.specs.Past.{Call, Begin, Step, Drop, Collect, after, afterAll}
-use lib.ListN.{replicate}
-use Prim.Native.Nat.{ℕ}
-use Rattle.parts.specs.Numbers.{sheets}
 use Rattle.engine.specs.declared.Engine.{Engine}
+use Rattle.past.specs.Past.{Call, Begin, Step, Drop, Collect, after, afterAll}
 use Rattle.histories.specs.Filled.{sumOf}
 use Rattle.histories.specs.Used.{usedOf}
 

@@ -6,8 +6,8 @@ use mathlib.Core.List.{List}
 use mathlib.Core.Logic.{_≢_}
 use mathlib.Core.Path.{_≡_, ap, _∙_}
 use native.Mathlib.Omega.{arith}
-use Rattle.parts.specs.Numbers.{workers}
 use borrow.Author.Tests.{eq-eqb, ne-eqb}
+use Rattle.parts.specs.Numbers.{workers}
 use Rattle.parts.specs.Parts.{lock0}
 use Rattle.parts.specs.Pick.{pick}
 use Rattle.parts.specs.declared.LockWord.{LockWord}
