@@ -33,6 +33,7 @@ use Rattle.past.specs.Past.{Call, Begin, Step, Collect, Drop, ReadWord, ReadLoc
 use Rattle.histories.proofs.demand.Demand.{demand-3}
 use Rattle.histories.proofs.filled.Filled.{shares}
 use Rattle.histories.proofs.plainly.Plainly.{plainly}
+use Rattle.histories.proofs.rules.Used.{used}
 use Rattle.histories.proofs.worn.Worn.{wears}
 use Rattle.carried.specs.Carried.{lentAfter, lentAll, lentPast, Tells, Short, Carried}
 
@@ -193,5 +194,5 @@ carried =
       short = short;
       follows = follows;
       tells = tells;
-      carried = λ s p n. (past-says s p n .0, past-tells s p n, demand-3 p, shares p, wears p, plainly p);
+      carried = λ s p n. (past-says s p n .0, past-tells s p n, demand-3 p, shares p, wears p, plainly p, used p);
     }

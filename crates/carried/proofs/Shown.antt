@@ -16,11 +16,11 @@ use Rattle.engine.specs.declared.LockTold.{LockTold}
 use Rattle.engine.specs.declared.WordTold.{WordTold}
 use Rattle.door.specs.Calls.{beginReply}
 use Rattle.door.specs.Door.{refusalReply, toldFields, collectedFields, wordFields, lockFields}
-use Rattle.histories.proofs.plainly.Plainly.{steps-records}
-use Rattle.past.specs.Past.{Call, Begin, Step, Collect, Drop, ReadWord, ReadLock, Show, Park, AllRecords, afterAll, steps}
+use Rattle.past.specs.Past.{Call, Begin, Step, Drop, AllRecords, afterAll, steps}
 use Rattle.refusals.specs.Orders.{Refuses}
 use Rattle.tables.specs.Table.{setupS, jobA, jobSkipping, fresh, on, Answers, End, Ends, Stands, callsC, callsD, callsE, callsG, callsH}
 use Rattle.tables.proofs.Bytes.{setup-bytes, job-bytes, job-b-bytes}
+use Rattle.histories.proofs.rules.Records.{both-records, steps-records}
 use Rattle.there_and_back.proofs.Exhibit.{past, premises-met}
 use Rattle.tables.proofs.Table.{table}
 use Rattle.carried.specs.Carried.{Tells}
@@ -30,19 +30,6 @@ use Rattle.carried.proofs.Carried.{past-tells, tells}
 pub wide : numbers ≤ length zeros
 unfolding zeros
 wide = omega (arith, length-replicate {A = ℕ} numbers 0)
-
--- every record of the rows' histories is a string of bytes
-both-records : (a b : List Call) → AllRecords a → AllRecords b → AllRecords (a ++ b)
-unfolding AllRecords
-both-records [] b h k = k
-both-records (Begin w l rec ∷ a) b h k = (h .0, both-records a b (h .1) k)
-both-records (Step w ∷ a) b h k = both-records a b h k
-both-records (Collect w ∷ a) b h k = both-records a b h k
-both-records (Drop w ∷ a) b h k = both-records a b h k
-both-records (ReadWord i ∷ a) b h k = both-records a b h k
-both-records (ReadLock l ∷ a) b h k = both-records a b h k
-both-records (Show s room ∷ a) b h k = both-records a b h k
-both-records (Park room ∷ a) b h k = both-records a b h k
 
 -- what is told on the numbers after a lent setup of S and these calls
 tells-on : (calls : List Call) → AllRecords calls → Tells (lentOn calls) (on calls)

@@ -10,6 +10,7 @@ use Rattle.past.specs.Past.{Call, Begin, Step, Collect, Drop, ReadWord, ReadLoc
 use Rattle.histories.specs.Filled.{Shares}
 use Rattle.histories.specs.History.{Demand3, sofar}
 use Rattle.histories.specs.Plainly.{Plainly}
+use Rattle.histories.specs.Used.{Used}
 use Rattle.histories.specs.Worn.{Wears}
 
 -- the numbers after one lent call; the readers and the writers change none
@@ -80,9 +81,9 @@ pub record Carried : Type 0 where
       (unpack (lentAll s cs) ≡ afterAll (unpack s) cs) × (length (lentAll s cs) ≡ length s)
   pub tells : (s : List ℕ) → numbers ≤ length s → Tells s (unpack s)
   -- From a lent setup through any lent calls: the state that the numbers say is the state after the history, what the next call tells
-  -- is told of that state, and all that is promised of it and of what the history comes to holds (demand 3, requests 02, 03
-  -- and 05).
+  -- is told of that state, and all that is promised of it and of what the history comes to holds (demand 3, requests 02, 03,
+  -- 05 and 06).
   pub carried :
       (s : List ℕ) (p : Past) → numbers ≤ length s →
       (unpack (lentPast s p) ≡ stateAfter p) × Tells (lentPast s p) (stateAfter p) × Demand3 p × Shares (sofar p) × Wears (sofar p) ×
-      Plainly (sofar p)
+      Plainly (sofar p) × Used (stateAfter p)

@@ -4,5 +4,6 @@ pub mod Spare
 pub mod Room
 pub mod Guards
 pub mod Rules
+pub mod Records
 pub mod Used
 pub mod Full

@@ -14,11 +14,11 @@ use Rattle.histories.specs.Filled.{sumOf}
 abbrev pub usedOf : (ℕ → Bool) → ℕ → ℕ
 usedOf used n = sumOf n (λ s. pick (used s) 1 0)
 
--- a lock names one sheet at most; a worker that is under way has one own and one helped, and one worker is idle
+-- a lock names one sheet at most; a worker that is under way has one own and at most one helped, and one worker is idle
 abbrev pub mostUsed : ℕ → ℕ → ℕ
 mostUsed locks workers = locks + 2 * (workers - 1)
 
--- over any numbers of locks, workers and sheets: so many are in use, and so one of more sheets is free
+-- over any numbers of locks, workers and sheets: at most so many are in use, and so of more sheets than that one is free
 pub record Counted : Type 0 where
   pub most :
       (locks : List LockWord) (ks : List Worker) (n w : ℕ) → w < length ks → getD ks w worker0 .state ≡ Idle →
@@ -27,11 +27,12 @@ pub record Counted : Type 0 where
       (locks : List LockWord) (ks : List Worker) (n w : ℕ) → w < length ks → getD ks w worker0 .state ≡ Idle →
       mostUsed (length locks) (length ks) < n → lowestOf (inUseOf locks ks) 0 n < n
 
--- of a state that calls gave, where a worker is idle, as it is at every begin that its worker's state does not refuse
+-- of a state that calls gave, where a worker is idle, as it is at every begin that 1, 3 and 4 do not refuse
 pub record Used (e : Engine) : Type 0 where
   pub most :
       (w : ℕ) → w < workers → workerAt e w .state ≡ Idle → usedOf (inUse e) sheets ≤ mostUsed (lockCount e) workers
   pub thirty : mostUsed mostLocks workers ≡ 30
+  pub atBegin : (w l : ℕ) (rec : List ℕ) → beginOf e w l rec .told ≡ Accepted → usedOf (inUse e) sheets ≤ 30
   pub free : (w : ℕ) → w < workers → workerAt e w .state ≡ Idle → freeSheet e < sheets
   -- "Is "no free sheet" ever said?"
   pub never : (w l : ℕ) (rec : List ℕ) → beginOf e w l rec .told ≢ Refused NoSheet

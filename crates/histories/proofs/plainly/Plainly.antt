@@ -1,5 +1,5 @@
 -- Request 05 of every history: what the theory says of a worker alone on a free lock, in the engine's words.
-use Prim.Native.Nat.{ℕ, zero, suc, _<_}
+use Prim.Native.Nat.{ℕ, suc, _<_}
 use native.Mathlib.Omega.{arith}
 use mathlib.Core.Bool.{Bool, true, false}
 use mathlib.Core.List.{List, _∷_}
@@ -50,13 +50,9 @@ use Rattle.histories.specs.Plainly.{aloneThen, RunsPlainly, Plainly}
 use Rattle.histories.proofs.demand.Helped.{may-begin, told-accepted, helped-is}
 use Rattle.histories.proofs.map.Map.{sceneOf}
 use Rattle.histories.proofs.plainly.Others.{others-there}
+use Rattle.histories.proofs.rules.Records.{steps-records}
 use Rattle.histories.proofs.rules.Rules.{job-fine, words-length, words-at}
 use Rattle.histories.proofs.simulation.Standing.{Standing, standing-follow, standing-past}
-
-pub steps-records : (n w : ℕ) → AllRecords (past.steps n w)
-unfolding AllRecords
-steps-records zero w = tt
-steps-records (suc n) w = steps-records n w
 
 not-worn : (x : LockWord) → x .holder ≡ Free → x .turn < lastTurn → wornOf x ≡ false
 unfolding wornOf

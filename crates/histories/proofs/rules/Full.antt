@@ -1,5 +1,5 @@
 -- Request 06's bound is reached: a history of calls after which 30 sheets are in use and a worker begins.
-use Prim.Native.Nat.{ℕ}
+use Prim.Native.Nat.{ℕ, zero, suc}
 use mathlib.Core.Path.{_≡_, refl}
 use mathlib.Core.List.{List, [], _∷_, _++_}
 use lib.ListN.{replicate}
@@ -9,7 +9,7 @@ use Rattle.parts.specs.Parts as parts
 use Rattle.parts.specs.Parts.{committedOf, holdsOf, isFirst, registerOf, withRegister, wornOf}
 use Rattle.parts.specs.declared.Told.the-variants.{Accepted}
 use Rattle.parts.specs.Numbers.{sheets}
-use Rattle.records.specs.Bytes.{u32sOf}
+use Rattle.records.specs.Bytes.{AllBytes, u32sOf}
 use Rattle.records.specs.Job.{badlyFormed, codeTold, instrTold, instrsOf, toldBy, straysAt}
 use Rattle.records.specs.Setup.{guardsTold, setupTold, turnsTold}
 use Rattle.arrays.specs.Fresh.{wordsFrom}
@@ -21,10 +21,11 @@ use Rattle.steps.specs.declared.State.the-variants.{Idle}
 use Rattle.engine.specs.Step.{placesOf, putAt, viewAt}
 use Rattle.engine.specs.Calls.{beginOf, beginTold, begunOf, collectOf, dropOf, freshOf, setupOf, stepOf}
 use Rattle.engine.specs.State.{blankOf, workerAt, inUse, freeSheet}
-use Rattle.engine.specs.declared.Engine.{Engine}
-use Rattle.past.specs.Past.{Call, Begin, Step, Drop, Collect, after, afterAll}
+use Rattle.past.specs.Past.{Call, Begin, Step, Drop, Collect, AllRecords, Past, after, afterAll, stateAfter}
+use Rattle.tables.proofs.Bytes.{allBelow, all-bytes}
 use Rattle.histories.specs.Filled.{sumOf}
 use Rattle.histories.specs.Used.{usedOf}
+use Rattle.histories.proofs.rules.Records.{both-records}
 
 -- 16 locks, one word; a job of one halt
 unfoldable pub setup16 : List ℕ
@@ -41,19 +42,44 @@ won l = Begin 0 l halting ∷ Step 0 ∷ Step 0 ∷ Drop 0 ∷ []
 abbrev seen : ℕ → List Call
 seen w = won 0 ++ (Begin w 0 halting ∷ Step w ∷ Begin 0 0 halting ∷ Step 0 ∷ Step 0 ∷ Step 0 ∷ Step 0 ∷ Collect 0 ∷ [])
 
+-- so for 0 .. n - 1, in this order
+unfoldable pub each : (ℕ → List Call) → ℕ → List Call
+each f zero = []
+each f (suc n) = each f n ++ f n
+
+pub halting-bytes : AllBytes halting
+unfolding allBelow halting
+halting-bytes = all-bytes halting refl
+
+pub setup16-bytes : AllBytes setup16
+unfolding allBelow setup16
+setup16-bytes = all-bytes setup16 refl
+
+pub each-records : (f : ℕ → List Call) → ((n : ℕ) → AllRecords (f n)) → (n : ℕ) → AllRecords (each f n)
+unfolding each AllRecords
+each-records f h zero = tt
+each-records f h (suc n) = both-records (each f n) (f n) (each-records f h n) (h n)
+
 -- seven workers have one own sheet and one helped that no lock names, and all 16 locks are held
-unfoldable pub full : Engine
+unfoldable pub full : Past
+unfolding AllRecords
 full =
-    afterAll (setupOf setup16 .engine)
-    (seen 1 ++ seen 2 ++ seen 3 ++ seen 4 ++ seen 5 ++ seen 6 ++ seen 7 ++ won 0 ++ won 1 ++ won 2 ++ won 3 ++ won 4 ++ won 5 ++
-    won 6 ++ won 7 ++ won 8 ++ won 9 ++ won 10 ++ won 11 ++ won 12 ++ won 13 ++ won 14 ++ won 15)
+    record {
+      setup = setup16;
+      calls = each (λ w. seen (suc w)) 7 ++ each won 16;
+      setupBytes = setup16-bytes;
+      callsBytes =
+          both-records (each (λ w. seen (suc w)) 7) (each won 16)
+          (each-records (λ w. seen (suc w)) (λ w. (halting-bytes, (halting-bytes, (halting-bytes, tt)))) 7)
+          (each-records won (λ l. (halting-bytes, tt)) 16);
+    }
 
 pub record Full : Type 0 where
-  pub idle : workerAt full 0 .state ≡ Idle
-  pub thirty : usedOf (inUse full) sheets ≡ 30
-  pub next : freeSheet full ≡ 30
-  pub begun : beginOf full 0 0 halting .told ≡ Accepted
+  pub idle : workerAt (stateAfter full) 0 .state ≡ Idle
+  pub thirty : usedOf (inUse (stateAfter full)) sheets ≡ 30
+  pub next : freeSheet (stateAfter full) ≡ 30
+  pub begun : beginOf (stateAfter full) 0 0 halting .told ≡ Accepted
 
 pub thirty-used : Full
-unfolding wordsFrom asksOf followsOf wordOf lay parts.grabOf parts.releaseOf parts.swapOf committedOf holdsOf isFirst worker.countedOf registerOf withRegister wornOf u32sOf badlyFormed codeTold instrTold instrsOf toldBy straysAt guardsTold setupTold turnsTold anyOf inUseOf lowestOf helpedOf spotOf try.answerOf try.commitStep try.effectOf try.followStep try.grabStep try.lookAgainStep try.lookStep try.markStep try.readMarkStep try.readStep try.releaseStep try.swapStep worker.beganOf worker.beginByState worker.collectByState worker.collectedOf worker.dropByState worker.droppedOf worker.stepByState beginOf beginTold begunOf collectOf dropOf freshOf setupOf stepOf blankOf placesOf putAt viewAt after afterAll sumOf setup16 halting full
+unfolding wordsFrom asksOf followsOf wordOf lay parts.grabOf parts.releaseOf parts.swapOf committedOf holdsOf isFirst worker.countedOf registerOf withRegister wornOf u32sOf badlyFormed codeTold instrTold instrsOf toldBy straysAt guardsTold setupTold turnsTold anyOf inUseOf lowestOf helpedOf spotOf try.answerOf try.commitStep try.effectOf try.followStep try.grabStep try.lookAgainStep try.lookStep try.markStep try.readMarkStep try.readStep try.releaseStep try.swapStep worker.beganOf worker.beginByState worker.collectByState worker.collectedOf worker.dropByState worker.droppedOf worker.stepByState beginOf beginTold begunOf collectOf dropOf freshOf setupOf stepOf blankOf placesOf putAt viewAt after afterAll sumOf setup16 halting each full
 thirty-used = record { idle = refl; thirty = refl; next = refl; begun = refl }

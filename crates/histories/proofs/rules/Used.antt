@@ -1,5 +1,5 @@
 -- Request 06: how many sheets are in use at a begin, of any numbers and of every state that calls gave; and that 10 is never told.
-use Prim.Native.Nat.{ℕ, _+_, _<_}
+use Prim.Native.Nat.{ℕ, _+_, _<_, _≤_}
 use native.Mathlib.Omega.{arith}
 use mathlib.Core.Bool.{Bool, true, false}
 use mathlib.Core.List.{List, [], _∷_}
@@ -31,11 +31,12 @@ use Rattle.engine.specs.Calls.{beginOf, beginTold}
 use Rattle.engine.specs.State.{inUse, locksOf, lockCount, lockAt, workerAt, wordsOf, freeSheet}
 use Rattle.engine.specs.declared.Engine.{Engine}
 use Rattle.engine.specs.declared.Outcome.{Outcome}
+use Rattle.engine.proofs.Begins.{begins}
 use Rattle.past.specs.Past.{Past, stateAfter}
-use Rattle.past.proofs.Accepted.{begin-told}
+use Rattle.past.proofs.Accepted.{idle-of, begin-told}
 use Rattle.ranges.specs.Good.{Good}
 use Rattle.ranges.proofs.Gave.{good-past}
-use Rattle.histories.specs.Used.{usedOf, Counted, Used}
+use Rattle.histories.specs.Used.{usedOf, mostUsed, Counted, Used}
 use Rattle.histories.proofs.rules.Room.{used-most, room}
 use Rattle.histories.proofs.rules.Rules.{free-sheet}
 use Rattle.histories.proofs.rules.Spare.{in-use-locks}
@@ -47,7 +48,7 @@ counted =
       free = λ locks ks n w h i few. room locks ks worker0 n w h i few;
     }
 
--- no other row tells it
+-- no other row tells 10
 abbrev NotTen : Told → Type 0
 NotTen t = t ≢ Refused NoSheet
 
@@ -129,6 +130,20 @@ not-begun e g w l rec h Accepted q =
 not-begun e g w l rec h (Refused r) q =
     never-told e g w l rec (q ∙ sym (ap (λ (o : Outcome). o .told) (begin-told e w l rec (Refused r) q)) ∙ h)
 
+-- a begin that is accepted is one of a worker that is idle
+begins-idle :
+    (e : Engine) (w l : ℕ) (rec : List ℕ) → beginOf e w l rec .told ≡ Accepted → (w < workers) × (workerAt e w .state ≡ Idle)
+begins-idle e w l rec h = go (beginTold e w l rec) refl
+  where
+    go : (t : Told) → beginTold e w l rec ≡ t → (w < workers) × (workerAt e w .state ≡ Idle)
+    go Accepted q =
+        let b = begins e w l rec q in
+        (b .worker, idle-of (workerAt e w) (b .idle))
+    go (Refused r) q =
+        let told = ap (λ (o : Outcome). o .told) (begin-told e w l rec (Refused r) q) in
+        let z : _≡_ {A = ℕ} 0 1 = cc in
+        absurd (omega arith)
+
 pub used : (p : Past) → Used (stateAfter p)
 used p =
     let e = stateAfter p in
@@ -138,11 +153,12 @@ used p =
     let locks : length (locksOf e) ≡ lockCount e =
     length-take-le (lockCount e) (e .lock) (omega (arith, g .lengths .lock, g .numbers .locks)) in
     let ks = g .lengths .worker in
+    let most : (w : ℕ) → w < workers → workerAt e w .state ≡ Idle → usedOf (inUse e) sheets ≤ mostUsed (lockCount e) workers =
+    λ w h i. omega (arith, same, used-most (locksOf e) (e .worker) worker0 sheets w (omega arith) i, locks, ks) in
     record {
-      most =
-          λ w h i.
-          omega (arith, same, used-most (locksOf e) (e .worker) worker0 sheets w (omega arith) i, locks, ks);
+      most = most;
       thirty = refl;
+      atBegin = λ w l rec h. let i = begins-idle e w l rec h in omega (arith, most w (i .0) (i .1));
       free = λ w h i. let all = g .lengths .lock in room (e .lock) (e .worker) worker0 _ w (omega arith) i (omega arith);
       never = λ w l rec h. not-begun e g w l rec h (beginTold e w l rec) refl;
     }

@@ -7,7 +7,7 @@ pub use mathlib.Core.Path.{_≡_}
 pub use lib.ListN.{length, getD}
 pub use Rattle.parts.specs.declared.LockWord.{LockWord}
 pub use Rattle.parts.specs.declared.Refusal.the-variants.{NoSheet}
-pub use Rattle.parts.specs.declared.Told.the-variants.{Refused}
+pub use Rattle.parts.specs.declared.Told.the-variants.{Accepted, Refused}
 pub use Rattle.steps.specs.declared.State.the-variants.{Idle}
 pub use Rattle.steps.specs.declared.Worker.{Worker}
 pub use Rattle.engine.specs.declared.Engine.{Engine}
