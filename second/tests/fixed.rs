@@ -69,70 +69,70 @@ fn six_then_five_and_a_late_helper() {
     ));
 }
 
-/// A store, and a cam that matches on a word that is 0: three steps each.
-const CHANGES: [[u8; 4]; 2] = [[3, 0, 0, 0], [4, 0, 0, 0]];
-
-/// The longest jobs: 190 steps of running, 196 for its own try, 193 for a try
-/// that helps from step 1, 196 for one that helps from step 3.
-#[test]
-fn longest_tries() {
+/// What is told of the longest jobs, 63 stores and 63 cams that match on a word
+/// that is 0, three steps each: worker 0 begins one, worker 1 begins B, and the
+/// rest follows; LONGEST stands for the job.
+fn expect_of_longest(rest: &str) {
     let zero = hex(&setup(&[0, 0], &[0, 9], &[0]));
-    for change in CHANGES {
+    for change in [[3, 0, 0, 0], [4, 0, 0, 0]] {
         let longest = hex(&job(&repeated(change, 64)));
+        let rest = rest.replace("LONGEST", &longest);
         expect(&format!(
             "setup {zero} => 0 0
             begin 0 0 {longest} => 0 0
             begin 1 0 B => 0 0
-            begin 2 0 B => 0 0
-            step 1 => 0 0 1
-            step 0 2 => 0 0 2
-            step 2 => 0 0 1
-            step 1 2 => 0 0 2
-            step 0 1000 => 4 0 194
-            collect 0 => 0 0 2 196 63
-            word 0 => 0 0 0 63 0
-            step 2 1000 => 4 0 192
-            collect 2 => 0 0 3 193 0
-            step 1 1000 => 4 0 193
-            collect 1 => 0 0 3 196 0
-            word 0 => 0 0 0 63 0"
+            {rest}"
         ));
     }
 }
 
-/// The same jobs, helped in the middle, after 32 of the 63 changes: from step
-/// 3 by a try that lost its grab, and the owner goes on after it; from step 1
-/// by one that begins when the owner is dropped.
+/// 190 steps of running, 196 for its own try, 193 for a try that helps from
+/// step 1, 196 for one that helps from step 3.
+#[test]
+fn longest_tries() {
+    expect_of_longest(
+        "begin 2 0 B => 0 0
+        step 1 => 0 0 1
+        step 0 2 => 0 0 2
+        step 2 => 0 0 1
+        step 1 2 => 0 0 2
+        step 0 1000 => 4 0 194
+        collect 0 => 0 0 2 196 63
+        word 0 => 0 0 0 63 0
+        step 2 1000 => 4 0 192
+        collect 2 => 0 0 3 193 0
+        step 1 1000 => 4 0 193
+        collect 1 => 0 0 3 196 0
+        word 0 => 0 0 0 63 0",
+    );
+}
+
+/// Helped in the middle, after 32 of the 63 changes: from step 3 by a try that
+/// lost its grab, and the owner goes on after it; from step 1 by one that
+/// begins when the owner is dropped.
 #[test]
 fn longest_tries_helped_in_the_middle() {
-    let zero = hex(&setup(&[0, 0], &[0, 9], &[0]));
-    for change in CHANGES {
-        let longest = hex(&job(&repeated(change, 64)));
-        expect(&format!(
-            "setup {zero} => 0 0
-            begin 0 0 {longest} => 0 0
-            begin 1 0 B => 0 0
-            step 1 => 0 0 1
-            step 0 100 => 0 0 100
-            word 0 => 0 0 0 32 0
-            step 1 1000 => 4 0 195
-            collect 1 => 0 0 3 196 31
-            word 0 => 0 0 0 63 0
-            lock 0 => 0 0 1 -
-            step 0 1000 => 4 0 96
-            collect 0 => 0 0 2 196 32
-            begin 0 0 {longest} => 0 0
-            step 0 100 => 0 0 100
-            drop 0 => 0 0
-            begin 1 0 B => 0 0
-            step 1 97 => 0 0 97
-            word 0 => 0 0 0 95 0
-            step 1 1000 => 4 0 96
-            collect 1 => 0 0 3 193 31
-            word 0 => 0 0 0 126 0
-            lock 0 => 0 0 2 -"
-        ));
-    }
+    expect_of_longest(
+        "step 1 => 0 0 1
+        step 0 100 => 0 0 100
+        word 0 => 0 0 0 32 0
+        step 1 1000 => 4 0 195
+        collect 1 => 0 0 3 196 31
+        word 0 => 0 0 0 63 0
+        lock 0 => 0 0 1 -
+        step 0 1000 => 4 0 96
+        collect 0 => 0 0 2 196 32
+        begin 0 0 LONGEST => 0 0
+        step 0 100 => 0 0 100
+        drop 0 => 0 0
+        begin 1 0 B => 0 0
+        step 1 97 => 0 0 97
+        word 0 => 0 0 0 95 0
+        step 1 1000 => 4 0 96
+        collect 1 => 0 0 3 193 31
+        word 0 => 0 0 0 126 0
+        lock 0 => 0 0 2 -",
+    );
 }
 
 /// A cam compares the committed value; where it differs it is over after its
