@@ -155,9 +155,7 @@ chant_reply plain_begin(struct plain *e, uint32_t worker, uint32_t lock, const u
   chant_reply fault = job_fault(e, lock, record + 4, n);
   if (fault.number) return fault;
   if (e->locks[lock].holder == FREE && e->locks[lock].turn == LAST_TURN) return refused(9, 0);
-  uint32_t frees = ~in_use(e);
-  if (frees == 0) return refused(10, 0);
-  uint32_t own = (uint32_t)__builtin_ctz(frees);
+  uint32_t own = (uint32_t)__builtin_ctz(~in_use(e)); /* at most 30 of the 32 are in use here */
   take_sheet(e, own, record + 4, n);
   w->now.op = LOOK;
   w->steps = 0;

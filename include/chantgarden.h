@@ -13,7 +13,7 @@
  * under 22). A field that has nothing to tell is 0, so all of them after number and place where a call is refused.
  *
  *    1 worker above 7                        9 the lock is free with turn 67,108,864
- *    2 lock not below L                     10 no free sheet
+ *    2 lock not below L                     10 is no longer told
  *    3 worker under way                     11 worker idle
  *    4 answer not collected                 12 L, W, a guard or a turn outside its range; park: blank state
  *    5 record length wrong                  13 lent buffer shorter than the record
@@ -73,7 +73,7 @@ CHANT_READ chant_reply chant_setup(uint32_t *state, size_t numbers, const uint8_
 
 /* Gives an idle worker a job record to try under a lock: takes the free sheet with the lowest number, copies the job, empties the
  * log, clears the mark. A record of kind 1 has 1 to 32 instructions, one of kind 4 33 to 64; 5 where it has another number.
- * Refused 1, 3, 4, 2, 5, 6, 7, 8, 9, 10. The place of 7 and 8 is the instruction's, from 0; the lowest faulty instruction is told. */
+ * Refused 1, 3, 4, 2, 5, 6, 7, 8, 9. The place of 7 and 8 is the instruction's, from 0; the lowest faulty instruction is told. */
 CHANT_READ chant_reply chant_begin(uint32_t *state, size_t numbers, uint32_t worker, uint32_t lock, const uint8_t *record,
                                    size_t length);
 

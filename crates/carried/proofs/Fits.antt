@@ -8,14 +8,14 @@ use lib.Dec.{eqb, leb, ltb}
 use lib.ListN.{length, take, drop, length-take, length-drop, length-append, length-map}
 use borrow.Author.Tests.{ltb-false}
 use Rattle.arrays.specs.Fresh.{guardsOf, valuesOf, turnsOf}
-use Rattle.parts.specs.Numbers.{workers, sheets, mostLocks, mostWords, instructions, lastTurn}
+use Rattle.parts.specs.Numbers.{workers, mostLocks, mostWords, instructions, lastTurn}
 use Rattle.parts.specs.Parts.{registers0, wornOf}
 use Rattle.parts.specs.Pick.{pick, _or_, _isnt_}
 use Rattle.parts.specs.Told.{refuseIf, refusalPlace, onTold, firstOf, FirstAt}
 use Rattle.parts.specs.declared.Instr.{Instr}
 use Rattle.parts.specs.declared.LockWord.{LockWord}
 use Rattle.parts.specs.declared.Refusal.{Refusal}
-use Rattle.parts.specs.declared.Refusal.the-variants.{NoWorker, NoLock, WorkerUnderWay, NotCollected, Length, Kind, Instruction, Guard, LastTurn, NoSheet, WorkerIdle, Range, Buffer, SheetFree, Held, NoWord, CallRecord}
+use Rattle.parts.specs.declared.Refusal.the-variants.{NoWorker, NoLock, WorkerUnderWay, NotCollected, Length, Kind, Instruction, Guard, LastTurn, WorkerIdle, Range, Buffer, SheetFree, Held, NoWord, CallRecord}
 use Rattle.parts.specs.declared.Told.{Told}
 use Rattle.parts.specs.declared.Told.the-variants.{Accepted, Refused}
 use Rattle.parts.proofs.Order.{first-exactly, both-pass, neither, not-isnt}
@@ -25,7 +25,7 @@ use Rattle.records.proofs.Form.{job-count, form-known, formed, job-formed}
 use Rattle.records.specs.Setup.{setupKind, locksField, wordsField, guardsField, turnsField, setupLength, outside}
 use Rattle.records.proofs.Fours.{u32s-length, code-length, bytes-length}
 use Rattle.engine.specs.Calls.{isFree, writeOf, showTold, showOf, parkTold, parkOf}
-use Rattle.engine.specs.State.{lockAt, freeSheet, lockCount, wordCount, locksOf, wordsOf, baseOf, programLength, programOf, sheetRecord, stateRecord}
+use Rattle.engine.specs.State.{lockAt, lockCount, wordCount, locksOf, wordsOf, baseOf, programLength, programOf, sheetRecord, stateRecord}
 use Rattle.engine.specs.declared.Engine.{Engine}
 use Rattle.engine.specs.declared.WriteTold.{WriteTold}
 use Rattle.calls.specs.Record.{lastCall, callWith, callRecord, recordLength, writeOrder, writeTold, recordedOf}
@@ -133,8 +133,7 @@ begin-below e w l rec =
     row (2 ^ 32) (outsideKind forms (kindField rec) (length rec)) Length _ (omega arith) (λ h.
     code-below (2 ^ 32) (jobOf rec) 0 l (guardsOf (wordsOf e)) _ (omega (arith, job-most rec k h)) (
     row (2 ^ 32) (wornOf (lockAt e l)) LastTurn _ (omega arith) (λ _.
-    row (2 ^ 32) (leb sheets (freeSheet e)) NoSheet _ (omega arith) (λ _.
-    end (2 ^ 32)))))))))))
+    end (2 ^ 32))))))))))
 
 setup-below : (rec : List ℕ) → Below (2 ^ 32) (setupRows rec)
 unfolding refusalPlace

@@ -1,16 +1,17 @@
 -- What an accepted begin found: every row of its order accepts.
-use Prim.Native.Nat.{ℕ, _+_, _*_, _≤_}
+use Prim.Native.Nat.{ℕ, _+_, _*_, _≤_, _<_}
 use mathlib.Core.Path.{_≡_, _∙_, sym}
 use mathlib.Core.List.{List}
 use lib.ListN.{length}
 use borrow.Author.Tests.{leb-false}
 use Rattle.parts.specs.Numbers.{workers, sheets, instructions}
-use Rattle.parts.specs.declared.Refusal.the-variants.{NoWorker, NoLock, LastTurn, NoSheet}
+use Rattle.parts.specs.declared.Refusal.the-variants.{NoWorker, NoLock, LastTurn}
 use Rattle.parts.specs.declared.Told.{Told}
 use Rattle.parts.specs.declared.Told.the-variants.{Accepted}
 use Rattle.parts.proofs.Order.{first-all, row-passes}
 use Rattle.records.specs.Job.{jobOf, jobTold}
 use Rattle.records.proofs.Form.{job-formed}
+use Rattle.sheets.proofs.Lowest.{taken-one}
 use Rattle.engine.specs.State.{lockCount, freeSheet}
 use Rattle.engine.specs.Calls.{beginOrder, beginTold}
 use Rattle.engine.specs.Inner.{Begins}
@@ -26,12 +27,15 @@ begins e w l rec h =
       lock = leb-false (lockCount e) l (row-passes _ NoLock (row 2));
       job = row 3;
       worn = row-passes _ LastTurn (row 4);
-      sheet = leb-false sheets (freeSheet e) (row-passes _ NoSheet (row 5));
     }
 
 -- by what a callee told
 pub begins-by : (e : Engine) (w l : ℕ) (rec : List ℕ) (q : Told) → q ≡ beginTold e w l rec → q ≡ Accepted → Begins e w l rec
 begins-by e w l rec q h k = begins e w l rec (sym h ∙ k)
+
+-- the sheet that it takes is one, in whatever state
+pub sheet-taken : (e : Engine) → freeSheet e < sheets
+sheet-taken e = taken-one (e .lock) (e .worker)
 
 -- "length 4 + 4n, n from 1 to 32", to 64 since request 04
 pub job-size :

@@ -1,4 +1,4 @@
--- The nine calls: each call's order of refusals, as document 01 lists it, and what an accepted call does and tells.
+-- The nine calls: each call's order of refusals, as document 01 and the requests list it, and what an accepted call does and tells.
 mod Names
 use Names.*
 use Rattle.arrays.specs.Fresh.{wordsFrom, freeAt, guardsOf}
@@ -32,13 +32,14 @@ freshOf rec =
 unfoldable pub setupOf : List ℕ → Outcome
 setupOf rec = outcomeOf blankOf (setupTold rec) (freshOf rec)
 
--- "Order for begin: 1, 3 or 4, 2, 5 .., 6, 5 .., then the lowest faulty instruction .., 9, 10." The rows from 9 on, from 2 on, and
--- all
-abbrev pub roomOrder : Engine → ℕ → List Told
-roomOrder e l = refuseIf (wornOf (lockAt e l)) LastTurn ∷ refuseIf (leb sheets (freeSheet e)) NoSheet ∷ []
-
+-- "Order for begin: 1, 3 or 4, 2, 5 .., 6, 5 .., then the lowest faulty instruction .., 9, 10."; request 06: "10 removed". The rows from 2
+-- on, and all
 abbrev pub lockOrder : Engine → ℕ → List ℕ → List Told
-lockOrder e l rec = refuseIf (leb (lockCount e) l) NoLock ∷ jobTold rec l (guardsOf (wordsOf e)) ∷ roomOrder e l
+lockOrder e l rec =
+    refuseIf (leb (lockCount e) l) NoLock ∷
+    jobTold rec l (guardsOf (wordsOf e)) ∷
+    refuseIf (wornOf (lockAt e l)) LastTurn ∷
+    []
 
 abbrev pub beginOrder : Engine → ℕ → ℕ → List ℕ → List Told
 beginOrder e w l rec = refuseIf (leb workers w) NoWorker ∷ beginByState (workerAt e w) ∷ lockOrder e l rec

@@ -9,7 +9,7 @@ use Rattle.parts.specs.Parts.{wornOf}
 use Rattle.parts.specs.declared.Told.the-variants.{Accepted}
 use Rattle.records.specs.Job.{jobTold}
 use Rattle.steps.specs.Worker.{beginByState}
-use Rattle.engine.specs.State.{lockCount, wordsOf, workerAt, lockAt, freeSheet}
+use Rattle.engine.specs.State.{lockCount, wordsOf, workerAt, lockAt}
 use Rattle.engine.specs.declared.Engine.{Engine}
 use Rattle.engine.specs.declared.Places.{Places}
 
@@ -29,4 +29,3 @@ pub record Begins (e : Engine) (w l : ℕ) (rec : List ℕ) : Type 0 where
   pub lock : l < lockCount e
   pub job : jobTold rec l (guardsOf (wordsOf e)) ≡ Accepted
   pub worn : wornOf (lockAt e l) ≡ false
-  pub sheet : freeSheet e < sheets

@@ -4,10 +4,12 @@ ghost use Prim.Native.Nat.{_<_, _≤_, _+_, _*_};
 ghost use lib.ListN.{length};
 ghost use Rattle.arrays.specs.Fresh.{guardsOf};
 ghost use Rattle.parts.specs.Numbers.{workers, mostLocks, sheets, instructions};
-ghost use Rattle.parts.specs.Told.{firstOf};
+ghost use Rattle.parts.specs.Parts.{wornOf};
+ghost use Rattle.parts.specs.Told.{firstOf, refuseIf};
+ghost use Rattle.parts.specs.declared.Refusal.the-variants.{LastTurn};
 ghost use Rattle.records.specs.Job.{jobTold};
-ghost use Rattle.engine.specs.State.{wordsOf};
-ghost use Rattle.engine.specs.Calls.{roomOrder, lockOrder, beginTold, begunOf, takenOf, beginOf};
+ghost use Rattle.engine.specs.State.{wordsOf, lockAt};
+ghost use Rattle.engine.specs.Calls.{lockOrder, beginTold, begunOf, takenOf, beginOf};
 ghost use Rattle.engine.specs.Inner.{Begins};
 use crate::Engine;
 use crate::Outcome;
@@ -16,27 +18,19 @@ use crate::read::lock_count;
 use crate::read::word_count;
 use parts::INSTRUCTIONS;
 use parts::Refusal;
-use parts::SHEETS;
 use parts::Told;
 use parts::WORKERS;
 
 impl Engine {
-    // Refusals 9 and 10.
-    fn room_told(self, lock: usize) -> Told
+    // Refusal 9.
+    fn worn_told(self, lock: usize) -> Told
         requires { ⌜ lock < mostLocks ⌝ }
-        ensures { λ r. ⌜ r ≡ firstOf (roomOrder self lock) ⌝ }
+        ensures { λ r. ⌜ r ≡ refuseIf (wornOf (lockAt self lock)) LastTurn ⌝ }
     {
         let l = self.lock[lock];
         let worn = l.worn();
         if worn {
             return Told::Refused(Refusal::LastTurn);
-        }
-        let locks = self.lock;
-        let workers = self.worker;
-        let s = sheets::free_sheet(locks, workers);
-        let at = s as usize;
-        if SHEETS <= at {
-            return Told::Refused(Refusal::NoSheet);
         }
         Told::Accepted
     }
@@ -51,7 +45,7 @@ impl Engine {
         records::job::job_told(rec, lock, &guards[..n])
     }
 
-    // Refusals 2 and 5 to 10.
+    // Refusals 2 and 5 to 9.
     fn lock_told(self, lock: u32, rec: &[u8]) -> Told
         ensures { λ r. ⌜ r ≡ firstOf (lockOrder self lock (now (rec .entry))) ⌝ }
     {
@@ -63,7 +57,7 @@ impl Engine {
         let told = self.job_told(lock, rec);
         match told {
             Told::Refused(_) => told,
-            Told::Accepted => self.room_told(i),
+            Told::Accepted => self.worn_told(i),
         }
     }
 
@@ -122,7 +116,7 @@ impl Engine {
         self.begun(i, lock as u8, rec, s)
     }
 
-    // Worker w is under way with this job on this lock. Refused: 1, 3 or 4, 2, 5, 6, 5, the lowest faulty instruction, 9, 10.
+    // Worker w is under way with this job on this lock. Refused: 1, 3 or 4, 2, 5, 6, 5, the lowest faulty instruction, 9.
     pub fn begin(self, w: u32, lock: u32, rec: &[u8]) -> Outcome
         ensures { λ r. ⌜ r ≡ beginOf self w lock (now (rec .entry)) ⌝ }
     {

@@ -1,33 +1,26 @@
 -- What begin makes of the lent numbers, and of the state that they say.
-use Prim.Native.Nat.{ℕ, _-_, _/_, _≤_, _<_}
+use Prim.Native.Nat.{ℕ, _-_, _/_, _<_}
 use mathlib.Core.Bool.{false}
-use mathlib.Core.List.{List, [], _∷_, _++_}
-use mathlib.Core.Path.{_≡_, refl, _∙_, sym, ap}
+use mathlib.Core.List.{List}
+use mathlib.Core.Path.{_≡_, _∙_, sym, ap}
 use native.Mathlib.Omega.{arith}
-use borrow.Author.Tests.{le-leb, lt-leb}
-use lib.Dec.{leb}
 use lib.ListN.{length, take, drop, replicate, length-drop}
 use Rattle.parts.specs.Numbers.{sheets, instructions}
 use Rattle.parts.specs.Parts.{instr0, entry0}
-use Rattle.parts.specs.Told.{_then_, refuseIf, firstOf}
 use Rattle.parts.specs.declared.Refusal.{Refusal}
-use Rattle.parts.specs.declared.Refusal.the-variants.{NoSheet}
 use Rattle.parts.specs.declared.Told.{Told}
 use Rattle.parts.specs.declared.Told.the-variants.{Accepted, Refused}
-use Rattle.parts.proofs.Order.{first-cons}
 use Rattle.records.specs.Job.{instrsOf, jobOf}
 use Rattle.records.proofs.Fours.{instrs-length}
 use Rattle.records.proofs.Laws.{part-end}
 use Rattle.steps.specs.Worker.{beganOf}
 use Rattle.steps.specs.declared.Worker.{Worker}
 use Rattle.engine.specs.Calls.{beginTold, begunOf, beginOf}
-use Rattle.engine.specs.Inner.{Begins}
-use Rattle.engine.proofs.Begins.{begins}
+use Rattle.engine.proofs.Begins.{sheet-taken}
 use Rattle.engine.specs.State.{workerAt, freeSheet, baseOf, withWorker}
-use Rattle.engine.specs.declared.Engine.{Engine}
 use Rattle.cells.specs.Layout.{instrPart, entryPart, unpack, putSheet, putWorker}
 use Rattle.cells.specs.State.{withSheet}
-use Rattle.lent_in.specs.Calls.{copiedNumbers, copiedOf, begunNumbers, beginNumbers, earlyOrder}
+use Rattle.lent_in.specs.Calls.{copiedNumbers, copiedOf, begunNumbers, beginNumbers}
 use Rattle.lent_in.specs.Laid.{layProgram, layLog, Laid}
 use Rattle.lent_in.proofs.Loops.{Did}
 
@@ -62,84 +55,35 @@ begun-by s t u v rec w l sheet n k next e b c m x y =
       y .1 ∙ simp (x .1, c .1, b, e, j),
     )
 
--- the rows of an order that is told in two parts
-first-both : (ts us : List Told) → firstOf (ts ++ us) ≡ (firstOf ts then firstOf us)
-first-both [] us = refl
-first-both (Accepted ∷ ts) us = first-cons Accepted (ts ++ us) ∙ first-both ts us ∙ sym (ap (λ (t : Told). t then firstOf us) (first-cons Accepted ts))
-first-both (Refused r ∷ ts) us = first-cons (Refused r) (ts ++ us) ∙ sym (ap (λ (t : Told). t then firstOf us) (first-cons (Refused r) ts))
-
--- begin's order: the last row asks for a free sheet
-begin-rows :
-    (e : Engine) (w l : ℕ) (rec : List ℕ) →
-    beginTold e w l rec ≡ (firstOf (earlyOrder e w l rec) then refuseIf (leb sheets (freeSheet e)) NoSheet)
-unfolding beginTold
-begin-rows e w l rec = first-both (earlyOrder e w l rec) (refuseIf (leb sheets (freeSheet e)) NoSheet ∷ [])
-
--- every row accepts
-pub ready :
-    (e : Engine) (w l sheet : ℕ) (rec : List ℕ) (q : Told) →
-    q ≡ firstOf (earlyOrder e w l rec) →
-    q ≡ Accepted →
-    sheet ≡ freeSheet e →
-    sheet < sheets →
-    beginTold e w l rec ≡ Accepted
-ready e w l sheet rec q h k f b =
-    let i : freeSheet e < sheets = omega arith in
-    begin-rows e w l rec ∙ simp (sym h ∙ k, lt-leb sheets (freeSheet e) i)
-
-pub ready-for :
-    (e : Engine) (w l sheet : ℕ) (rec : List ℕ) (q : Told) →
-    q ≡ firstOf (earlyOrder e w l rec) →
-    q ≡ Accepted →
-    sheet ≡ freeSheet e →
-    sheet < sheets →
-    Begins e w l rec
-ready-for e w l sheet rec q h k f b = begins e w l rec (ready e w l sheet rec q h k f b)
-
 -- some row refuses: nothing changed
-refused :
-    (s rec : List ℕ) (w l : ℕ) (r : Refusal) →
-    beginTold (unpack s) w l rec ≡ Refused r →
-    Did (Refused r) s (beginOf (unpack s) w l rec) (beginNumbers s w l rec)
-unfolding beginOf beginNumbers
-refused s rec w l r h = (simp h, (simp h, simp h))
-
--- an early row
 pub begin-refused :
     (s rec : List ℕ) (w l : ℕ) (q : Told) (r : Refusal) →
-    q ≡ firstOf (earlyOrder (unpack s) w l rec) →
+    q ≡ beginTold (unpack s) w l rec →
     q ≡ Refused r →
     Did q s (beginOf (unpack s) w l rec) (beginNumbers s w l rec)
+unfolding beginOf beginNumbers
 begin-refused s rec w l q r h k =
-    let x = refused s rec w l r (begin-rows (unpack s) w l rec ∙ simp (sym h ∙ k)) in
-    (k ∙ x .0, x .1)
+    let e = sym h ∙ k in
+    (k ∙ simp e, (simp e, simp e))
 
--- the last row
-pub begin-full :
-    (s rec : List ℕ) (w l sheet : ℕ) (q : Told) →
-    q ≡ firstOf (earlyOrder (unpack s) w l rec) →
-    q ≡ Accepted →
-    sheet ≡ freeSheet (unpack s) →
-    sheets ≤ sheet →
-    Did (Refused NoSheet) s (beginOf (unpack s) w l rec) (beginNumbers s w l rec)
-begin-full s rec w l sheet q h k f b =
-    let i : sheets ≤ freeSheet (unpack s) = omega arith in
-    refused s rec w l NoSheet (begin-rows (unpack s) w l rec ∙ simp (sym h ∙ k, le-leb sheets (freeSheet (unpack s)) i))
-
+-- every row accepts
 pub begin-accepted :
     (s t rec : List ℕ) (w l sheet : ℕ) (q : Told) →
-    q ≡ firstOf (earlyOrder (unpack s) w l rec) →
+    q ≡ beginTold (unpack s) w l rec →
     q ≡ Accepted →
     sheet ≡ freeSheet (unpack s) →
-    sheet < sheets →
     (t ≡ begunNumbers s w l rec sheet) × (unpack t ≡ begunOf (unpack s) w l rec sheet) →
     Did Accepted t (beginOf (unpack s) w l rec) (beginNumbers s w l rec)
 unfolding beginOf beginNumbers
-begin-accepted s t rec w l sheet q h k f b n =
-    let e = ready (unpack s) w l sheet rec q h k f b in
+begin-accepted s t rec w l sheet q h k f n =
+    let e = sym h ∙ k in
     let m = n .0 ∙ ap (λ (i : ℕ). begunNumbers s w l rec i) f in
     let x = n .1 ∙ ap (λ (i : ℕ). begunOf (unpack s) w l rec i) f in
     (simp e, (m ∙ simp e, x ∙ simp e))
+
+-- the sheet that the search found is one
+pub one-found : (s : List ℕ) (sheet : ℕ) → sheet ≡ freeSheet (unpack s) → sheet < sheets
+one-found s sheet f = omega (arith, sheet-taken (unpack s))
 
 -- what a callee made of p, which another callee ensures to be q
 pub said-of : {A B : Type 0} (f : A → B) (p q : A) (x : B) → x ≡ f p → p ≡ q → x ≡ f q

@@ -27,7 +27,7 @@ use Rattle.engine.specs.Calls.{outcomeOf, freshOf, setupOf, beginTold, begunOf,
 use Rattle.engine.specs.Inner.{Begins}
 use Rattle.engine.specs.State.{blankOf, workerAt, freeSheet, baseOf, withWorker}
 use Rattle.engine.specs.declared.Engine.{Engine}
-use Rattle.engine.proofs.Begins.{begins, job-size}
+use Rattle.engine.proofs.Begins.{begins, job-size, sheet-taken}
 use Rattle.cells.specs.Layout.{numbers, workerPart, lockPart, wordPart, sheetPart, instrPart, entryPart, unpack, putSizes, putSheet, blanked}
 use Rattle.cells.specs.Pieces.{Part, putPiece}
 use Rattle.cells.specs.State.{withSheet}
@@ -169,17 +169,17 @@ unfolding begunNumbers begunOf copiedOf
 begun-says s w l rec h bytes b =
     let sheet = freeSheet (unpack s) in
     let m = job-size rec l _ (b .job) in
-    let x = copied-says s rec sheet h (b .sheet) bytes (m .1) in
+    let x = copied-says s rec sheet h (sheet-taken (unpack s)) bytes (m .1) in
     let t = copiedNumbers s rec sheet in
     let n : numbers ≤ length t = omega (arith, x .1) in
-    let y = unpack-sheet t sheet (sheetFor rec) n (b .sheet) (sheet-back (sheetFor rec) (omega (arith, m .1))) in
+    let y = unpack-sheet t sheet (sheetFor rec) n (sheet-taken (unpack s)) (sheet-back (sheetFor rec) (omega (arith, m .1))) in
     let u = putSheet t sheet (sheetFor rec) in
     let q : length u ≡ length t = length-put sheetPart t sheet (sheetFor rec) in
     let k = beganOf (workerAt (unpack s) w) l sheet in
     let is : k ≡ lookingOf l sheet = began-is (workerAt (unpack s) w) l sheet (b .idle) in
     let back : workerPart .reading (workerPart .writing k) ≡ k =
     subst (λ (j : Worker). workerPart .reading (workerPart .writing j) ≡ j) (sym is)
-    (worker-back (lookingOf l sheet) (record { lock = omega (arith, b .lock); own = omega (arith, b .sheet) }) tt) in
+    (worker-back (lookingOf l sheet) (record { lock = omega (arith, b .lock); own = omega (arith, sheet-taken (unpack s)) }) tt) in
     let v = unpack-worker u w k (omega (arith, q)) (b .worker) back in (
       v ∙ ap (λ (e : Engine). withWorker e w k) (y ∙ ap (λ (e : Engine). withSheet e sheet (sheetFor rec)) (x .0)),
       length-put workerPart u w k ∙ q ∙ x .1,

@@ -1,10 +1,10 @@
 -- Setup and begin on lent numbers: the numbers after the call exactly, and the state half-way.
 mod Names
 use Names.*
-use Rattle.records.specs.Job.{jobOf, jobTold}
+use Rattle.records.specs.Job.{jobOf}
 use Rattle.records.specs.Setup.{locksField, wordsField, guardsField, valuesField, turnsField, setupTold}
-use Rattle.steps.specs.Worker.{beganOf, beginByState}
-use Rattle.engine.specs.State.{lockCount, wordsOf, workerAt, lockAt, freeSheet, baseOf}
+use Rattle.steps.specs.Worker.{beganOf}
+use Rattle.engine.specs.State.{workerAt, freeSheet, baseOf}
 use Rattle.engine.specs.Calls.{beginTold}
 use Rattle.cells.specs.Layout.{wordPart, lockPart, instrPart, entryPart, unpack, putSizes, putSheet, putWorker, blanked}
 use Rattle.cells.specs.State.{withSizes}
@@ -51,14 +51,3 @@ begunNumbers s w l rec sheet =
 unfoldable pub beginNumbers : List ℕ → ℕ → ℕ → List ℕ → List ℕ
 beginNumbers s w l rec =
     onTold (beginTold (unpack s) w l rec) (begunNumbers s w l rec (freeSheet (unpack s))) (λ r. s)
-
--- begin's order without its last row, which asks for a free sheet: the rows from 2 on, and all
-abbrev pub turnOrder : Engine → ℕ → List ℕ → List Told
-turnOrder e l rec =
-    refuseIf (leb (lockCount e) l) NoLock ∷
-    jobTold rec l (guardsOf (wordsOf e)) ∷
-    refuseIf (wornOf (lockAt e l)) LastTurn ∷
-    []
-
-abbrev pub earlyOrder : Engine → ℕ → ℕ → List ℕ → List Told
-earlyOrder e w l rec = refuseIf (leb workers w) NoWorker ∷ beginByState (workerAt e w) ∷ turnOrder e l rec

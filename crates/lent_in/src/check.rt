@@ -1,4 +1,4 @@
-// Begin's order of refusals up to its last, which asks for a free sheet.
+// Begin's order of refusals.
 ghost use mathlib.Core.Path.{_≡_};
 ghost use Prim.Native.Nat.{_≤_, _<_};
 ghost use lib.ListN.{length};
@@ -8,9 +8,9 @@ ghost use Rattle.parts.specs.Parts.{wornOf};
 ghost use Rattle.parts.specs.Told.{firstOf, refuseIf};
 ghost use Rattle.parts.specs.declared.Refusal.the-variants.{LastTurn};
 ghost use Rattle.records.specs.Job.{jobTold};
+ghost use Rattle.engine.specs.Calls.{lockOrder, beginTold};
 ghost use Rattle.engine.specs.State.{wordsOf, lockAt};
 ghost use Rattle.cells.specs.Layout.{numbers, unpack};
-ghost use Rattle.lent_in.specs.Calls.{turnOrder, earlyOrder};
 use parts::Refusal;
 use parts::Told;
 use parts::WORDS;
@@ -55,9 +55,9 @@ fn worn_told(s: &[u32], lock: usize) -> Told
 }
 
 // Refusals 2 and 5 to 9.
-fn turn_told(s: &[u32], lock: u32, rec: &[u8]) -> Told
+fn lock_told(s: &[u32], lock: u32, rec: &[u8]) -> Told
     requires { ⌜ numbers ≤ length (now s) ⌝ }
-    ensures { λ r. ⌜ r ≡ firstOf (turnOrder (unpack (now (s .entry))) lock (now (rec .entry))) ⌝ }
+    ensures { λ r. ⌜ r ≡ firstOf (lockOrder (unpack (now (s .entry))) lock (now (rec .entry))) ⌝ }
 {
     let n = cells::lock_count(s);
     let i = lock as usize;
@@ -71,10 +71,10 @@ fn turn_told(s: &[u32], lock: u32, rec: &[u8]) -> Told
     }
 }
 
-// Every refusal of begin but the last, in its order.
-pub fn early_told(s: &[u32], w: u32, lock: u32, rec: &[u8]) -> Told
+// Every refusal of begin, in its order.
+pub fn begin_told(s: &[u32], w: u32, lock: u32, rec: &[u8]) -> Told
     requires { ⌜ numbers ≤ length (now s) ⌝ }
-    ensures { λ r. ⌜ r ≡ firstOf (earlyOrder (unpack (now (s .entry))) w lock (now (rec .entry))) ⌝ }
+    ensures { λ r. ⌜ r ≡ beginTold (unpack (now (s .entry))) w lock (now (rec .entry)) ⌝ }
 {
     let i = w as usize;
     if WORKERS <= i {
@@ -84,6 +84,6 @@ pub fn early_told(s: &[u32], w: u32, lock: u32, rec: &[u8]) -> Told
     let told = k.begin_told();
     match told {
         Told::Refused(_) => told,
-        Told::Accepted => turn_told(s, lock, rec),
+        Told::Accepted => lock_told(s, lock, rec),
     }
 }

@@ -11,8 +11,6 @@ mod check;
 mod fill;
 mod laid;
 
-use parts::Refusal;
-use parts::SHEETS;
 use parts::Told;
 
 // A fresh state; a refused setup gives the blank one. Refused: 5, 6, 5, 12 for L then W, 5, 12 for the lowest faulty byte.
@@ -33,22 +31,18 @@ pub fn setup(s: &mut [u32], rec: &[u8]) -> Told
     }
 }
 
-// Worker w is under way with this job on this lock. Refused: 1, 3 or 4, 2, 5, 6, 5, the lowest faulty instruction, 9, 10.
+// Worker w is under way with this job on this lock. Refused: 1, 3 or 4, 2, 5, 6, 5, the lowest faulty instruction, 9.
 pub fn begin(s: &mut [u32], w: u32, lock: u32, rec: &[u8]) -> Told
     requires { ⌜ numbers ≤ length (now s) ⌝ }
     ensures { λ r. ⌜ r ≡ beginOf (unpack (now (s .entry))) w lock (now (rec .entry)) .told ⌝ }
     ensures { λ _. ⌜ now (s .exit) ≡ beginNumbers (now (s .entry)) w lock (now (rec .entry)) ⌝ }
     ensures { λ _. ⌜ unpack (now (s .exit)) ≡ beginOf (unpack (now (s .entry))) w lock (now (rec .entry)) .engine ⌝ }
 {
-    let told = check::early_told(s, w, lock, rec);
+    let told = check::begin_told(s, w, lock, rec);
     match told {
         Told::Refused(_) => told,
         Told::Accepted => {
             let sheet = lent_sheets::free_sheet(s);
-            let at = sheet as usize;
-            if SHEETS <= at {
-                return Told::Refused(Refusal::NoSheet);
-            }
             fill::taken(s, w, lock, rec, sheet);
             Told::Accepted
         }

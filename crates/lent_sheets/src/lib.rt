@@ -57,7 +57,7 @@ pub fn in_use(s: &[u32], sheet: usize) -> bool
     marks[sheet]
 }
 
-// The free sheet with the lowest number, or the number of sheets where none is free.
+// The free sheet with the lowest number, or the last where none is free.
 pub fn free_sheet(s: &[u32]) -> u8
     requires { ⌜ numbers ≤ length (now s) ⌝ }
     ensures { λ r. ⌜ r ≡ freeSheet (unpack (now (s .entry))) ⌝ }

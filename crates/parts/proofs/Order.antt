@@ -1,14 +1,14 @@
 -- The order in which refusals are given: a refusal is told exactly when its row refuses and every row before it accepts.
 -- And what is known of the test of a row that accepts.
-use Prim.Native.Nat.{ℕ, zero, suc, _<_}
+use Prim.Native.Nat.{ℕ, zero, suc, _≤_, _<_}
 use mathlib.Core.Path.{_≡_, refl, _∙_, sym}
 use mathlib.Core.Bool.{Bool, true, false}
 use mathlib.Core.List.{List, [], _∷_}
-use mathlib.Core.Logic.{_↔_}
+use mathlib.Core.Logic.{_↔_, _⊎_, inl, inr}
 use native.Mathlib.Omega.{arith}
-use lib.Dec.{eqb}
+use lib.Dec.{eqb, ltb}
 use lib.ListN.{getD}
-use borrow.Author.Tests.{eqb-true}
+use borrow.Author.Tests.{eqb-true, ltb-true, ltb-false}
 use Rattle.parts.specs.Pick.{pick, _or_, _isnt_}
 use Rattle.parts.specs.Told.{_then_, refuseIf, firstOf, FirstAt}
 use Rattle.parts.specs.declared.Refusal.{Refusal}
@@ -75,3 +75,11 @@ not-isnt a b h = go (eqb a b) refl h
     go : (q : Bool) → eqb a b ≡ q → pick q false true ≡ false → a ≡ b
     go true e k = eqb-true a b e
     go false e k = let z : _≡_ {A = ℕ} 0 1 = cc in absurd (omega arith)
+
+-- of two numbers
+pub below-or-not : (a b : ℕ) → (a < b) ⊎ (b ≤ a)
+below-or-not a b = go (ltb a b) refl
+  where
+    go : (q : Bool) → ltb a b ≡ q → (a < b) ⊎ (b ≤ a)
+    go true e = inl (ltb-true a b e)
+    go false e = inr (ltb-false a b e)

@@ -11,7 +11,7 @@ answerNumber RanNo = 2
 answerNumber NotTaken = 3
 answerNumber Worn = 4
 
--- the table's "No."
+-- the table's "No."; request 06: "10 removed"
 unfoldable pub refusalNumber : Refusal → ℕ
 refusalNumber NoWorker = 1
 refusalNumber NoLock = 2
@@ -22,7 +22,6 @@ refusalNumber Kind = 6
 refusalNumber (Instruction p) = 7
 refusalNumber (Guard p) = 8
 refusalNumber LastTurn = 9
-refusalNumber NoSheet = 10
 refusalNumber WorkerIdle = 11
 refusalNumber (Range p) = 12
 refusalNumber Buffer = 13
@@ -43,7 +42,6 @@ refusalPlace Kind = 0
 refusalPlace (Instruction p) = p
 refusalPlace (Guard p) = p
 refusalPlace LastTurn = 0
-refusalPlace NoSheet = 0
 refusalPlace WorkerIdle = 0
 refusalPlace (Range p) = p
 refusalPlace Buffer = 0

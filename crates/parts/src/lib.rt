@@ -32,7 +32,7 @@ pub enum Answer {
     Worn,
 }
 
-// Why a call is refused, in the order of their numbers; a case that has a place other than 0 holds it.
+// Why a call is refused, in the order of their numbers, of which 10 is none's; a case that has a place other than 0 holds it.
 pub enum Refusal {
     NoWorker,
     NoLock,
@@ -43,7 +43,6 @@ pub enum Refusal {
     Instruction(usize),
     Guard(usize),
     LastTurn,
-    NoSheet,
     WorkerIdle,
     Range(usize),
     Buffer,
@@ -146,7 +145,6 @@ impl Refusal {
             Refusal::Instruction(_) => 7,
             Refusal::Guard(_) => 8,
             Refusal::LastTurn => 9,
-            Refusal::NoSheet => 10,
             Refusal::WorkerIdle => 11,
             Refusal::Range(_) => 12,
             Refusal::Buffer => 13,
@@ -170,7 +168,6 @@ impl Refusal {
             Refusal::Instruction(place) => place,
             Refusal::Guard(place) => place,
             Refusal::LastTurn => 0,
-            Refusal::NoSheet => 0,
             Refusal::WorkerIdle => 0,
             Refusal::Range(place) => place,
             Refusal::Buffer => 0,

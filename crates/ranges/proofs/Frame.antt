@@ -1,12 +1,9 @@
 -- What holds at every place of a list holds after a change of it, and what holds of each way holds of the way that is picked.
-use Prim.Native.Nat.{ℕ, zero, suc, _+_, _≤_, _<_}
+use Prim.Native.Nat.{ℕ, zero, suc, _+_}
 use mathlib.Core.Path.{_≡_, refl}
 use mathlib.Core.Bool.{Bool, true, false}
 use mathlib.Core.List.{List, [], _∷_, map}
-use mathlib.Core.Logic.{_⊎_, inl, inr}
-use lib.Dec.{ltb}
 use lib.ListN.{getD, set, take, drop, replicate}
-use borrow.Author.Tests.{ltb-true, ltb-false}
 use Rattle.parts.specs.Lay.{lay}
 use Rattle.parts.specs.Pick.{pick}
 use Rattle.parts.specs.Told.{onTold}
@@ -76,11 +73,3 @@ pub told-all :
     (t ≡ Accepted → P a) → ((r : Refusal) → t ≡ Refused r → P (f r)) → P (onTold t a f)
 told-all P Accepted a f h k = h refl
 told-all P (Refused r) a f h k = k r refl
-
--- a number is below another, or not
-pub below-or-not : (a b : ℕ) → (a < b) ⊎ (b ≤ a)
-below-or-not a b = go (ltb a b) refl
-  where
-    go : (q : Bool) → ltb a b ≡ q → (a < b) ⊎ (b ≤ a)
-    go true e = inl (ltb-true a b e)
-    go false e = inr (ltb-false a b e)

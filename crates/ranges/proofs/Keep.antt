@@ -30,7 +30,7 @@ use Rattle.engine.specs.declared.Outcome.{Outcome}
 use Rattle.ranges.specs.Good.{GoodPoint, GoodState, GoodLock, GoodWord, GoodInstr, GoodEntry, GoodSheet, GoodWorker, Good}
 use Rattle.ranges.proofs.Frame.{set-all, lay-all, replicate-all, state-all, told-all}
 use Rattle.ranges.proofs.Effect.{GoodView, effect-good}
-use Rattle.engine.proofs.Begins.{begins, job-size}
+use Rattle.engine.proofs.Begins.{begins, job-size, sheet-taken}
 use Rattle.ranges.proofs.Taken.{job-good, instr0-good, word0-good, lock0-good, setup-words, setup-locks}
 
 -- what the arrays have at the start
@@ -129,7 +129,7 @@ looking-good e w l rec g t =
     let most = g .numbers .locks in
     let lock = t .lock in
     state-all (GoodWorker (e .locks)) (workerAt e w .state) (lookingOf l (freeSheet e)) (λ p. workerAt e w) (λ x. workerAt e w)
-    (λ q. record { lock = omega arith; own = t .sheet; steps = omega arith; filled = omega arith; state = (omega arith, tt) })
+    (λ q. record { lock = omega arith; own = sheet-taken e; steps = omega arith; filled = omega arith; state = (omega arith, tt) })
     (λ p q. g .worker w) (λ x q. g .worker w)
 
 begun-good :

@@ -6,4 +6,5 @@ pub mod Keep
 pub mod Bites
 pub mod Fresh
 pub mod Programs
+pub mod Free
 pub mod Gave

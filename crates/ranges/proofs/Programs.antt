@@ -12,6 +12,7 @@ use Rattle.parts.specs.Lay.{lay}
 use Rattle.parts.specs.Numbers.{sheets, instructions}
 use Rattle.parts.specs.Parts.{instr0}
 use Rattle.parts.specs.declared.Told.the-variants.{Accepted, Refused}
+use Rattle.parts.proofs.Order.{below-or-not}
 use Rattle.records.specs.Job.{jobOf}
 use Rattle.steps.specs.declared.View.{View}
 use Rattle.engine.specs.State.{sheet0, freeSheet, baseOf, programLength, programOf}
@@ -21,9 +22,8 @@ use Rattle.engine.specs.Inner.{Begins}
 use Rattle.engine.specs.declared.Engine.{Engine}
 use Rattle.engine.specs.declared.Places.{Places}
 use Rattle.engine.specs.declared.Sheet.{Sheet}
-use Rattle.ranges.proofs.Frame.{below-or-not}
 use Rattle.ranges.proofs.Laid.{part-lay, set-same, lay-there}
-use Rattle.engine.proofs.Begins.{job-size}
+use Rattle.engine.proofs.Begins.{job-size, sheet-taken}
 use Rattle.parts.specs.declared.Refusal.the-variants.{WorkerUnderWay, NotCollected}
 use Rattle.parts.proofs.Lay.{length-lay}
 use Rattle.steps.specs.Worker as steps
@@ -97,9 +97,9 @@ begun-job e w l rec g t =
     let emptied = lay (baseOf s) (replicate instructions instr0) (e .program) in
     let most = job-size rec l _ (t .job) .1 in
     let here : getD (set (e .sheet) s x) s sheet0 ≡ x =
-    getD-set-same (e .sheet) s x sheet0 (omega (arith, g .lengths .sheet, t .sheet)) in
+    getD-set-same (e .sheet) s x sheet0 (omega (arith, g .lengths .sheet, sheet-taken e)) in
     let n : length job % (instructions + 1) ≡ length job = omega arith in
     let all : length emptied ≡ length (e .program) = length-lay (baseOf s) (replicate instructions instr0) (e .program) in
     ap (λ (y : Sheet). take (y .length % (instructions + 1)) (drop (baseOf s) (lay (baseOf s) job emptied))) here ∙
     ap (λ (m : ℕ). take m (drop (baseOf s) (lay (baseOf s) job emptied))) n ∙
-    lay-there (baseOf s) job emptied (omega (arith, g .lengths .program, t .sheet))
+    lay-there (baseOf s) job emptied (omega (arith, g .lengths .program, sheet-taken e))

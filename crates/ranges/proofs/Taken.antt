@@ -9,13 +9,14 @@ use Rattle.arrays.specs.Fresh.{wordsFrom, freeAt}
 use Rattle.parts.specs.Numbers.{lastTurn}
 use Rattle.parts.specs.Parts.{instr0, lock0, word0}
 use Rattle.parts.specs.declared.Told.the-variants.{Accepted}
+use Rattle.parts.proofs.Order.{below-or-not}
 use Rattle.records.specs.Bytes.{AllBytes, u32sOf}
 use Rattle.records.specs.Job.{instrsOf, jobOf}
 use Rattle.records.specs.Setup.{locksField, wordsField, guardsField, valuesField, turnsField, setupTold}
 use Rattle.records.proofs.One.{setup-sized}
 use Rattle.records.proofs.Takes.{guards-below, turns-below}
 use Rattle.ranges.specs.Good.{Fits32, Byte, GoodLock, GoodWord, GoodInstr}
-use Rattle.ranges.proofs.Frame.{All, take-all, drop-all, below-or-not}
+use Rattle.ranges.proofs.Frame.{All, take-all, drop-all}
 
 -- the instructions of bytes, and the numbers of bytes
 pub instr0-good : GoodInstr instr0

@@ -10,16 +10,17 @@ use lib.ListN.{length, take, drop}
 use borrow.Author.Tests.{le-leb, leb-true, leb-false, eqb-true, eqb-false}
 use Rattle.arrays.specs.Fresh.{guardsOf}
 use Rattle.parts.specs.Numbers.{workers}
+use Rattle.parts.specs.Parts.{wornOf}
 use Rattle.parts.specs.Told.{onTold, _then_, refuseIf, firstOf}
 use Rattle.parts.specs.declared.Refusal.{Refusal}
-use Rattle.parts.specs.declared.Refusal.the-variants.{NoWorker, NoLock}
+use Rattle.parts.specs.declared.Refusal.the-variants.{NoWorker, NoLock, LastTurn}
 use Rattle.parts.specs.declared.Told.{Told}
 use Rattle.parts.specs.declared.Told.the-variants.{Accepted, Refused}
 use Rattle.records.specs.Job.{forms, formOrder, jobTold}
 use Rattle.records.proofs.Form.{job-stop}
 use Rattle.steps.specs.Worker.{beginByState}
-use Rattle.engine.specs.Calls.{writeOf, bufferOf, outcomeOf, roomOrder, beginTold, takenOf, beginOf, stepOf, collectOf, dropOf}
-use Rattle.engine.specs.State.{lockCount, wordsOf, workerAt}
+use Rattle.engine.specs.Calls.{writeOf, bufferOf, outcomeOf, beginTold, takenOf, beginOf, stepOf, collectOf, dropOf}
+use Rattle.engine.specs.State.{lockCount, lockAt, wordsOf, workerAt}
 use Rattle.engine.specs.declared.CollectTold.{CollectTold}
 use Rattle.engine.specs.declared.Collected.{Collected}
 use Rattle.engine.specs.declared.Engine.{Engine}
@@ -212,4 +213,4 @@ unwritten-refused e w l rec h = go (firstOf (formOrder forms rec)) refl h
         let j : jobTold rec l (guardsOf (wordsOf e)) ≡ Refused s = sym (job-stop rec l (guardsOf (wordsOf e)) (Refused s) s (sym q) refl) in
         rw j
         (rows (refuseIf (leb workers w) NoWorker) (beginByState (workerAt e w)) (refuseIf (leb (lockCount e) l) NoLock) s
-        (firstOf (roomOrder e l)) (takenOf e w l rec))
+        (refuseIf (wornOf (lockAt e l)) LastTurn) (takenOf e w l rec))

@@ -1,8 +1,8 @@
 -- A refusal's number and place tell it, and an answer's number the answer: no two have the same. The numbers are document 01's,
--- from 1 to 16, and request 01's 17.
+-- from 1 to 16 without 10, which request 06 removed, and request 01's 17.
 use Prim.Native.Nat.{ℕ, _≤_}
 use mathlib.Core.Path.{_≡_, refl, _∙_, sym, ap}
-use mathlib.Core.Logic.{_↔_}
+use mathlib.Core.Logic.{_↔_, _≢_}
 use native.Mathlib.Omega.{arith}
 use lib.Dec.{eqb}
 use Rattle.parts.specs.Pick.{pick}
@@ -12,7 +12,7 @@ use Rattle.parts.specs.declared.Answer.the-variants.{RanYes, RanNo, NotTaken, W
 use Rattle.parts.specs.declared.Refusal.{Refusal}
 use Rattle.parts.specs.declared.Told.{Told}
 use Rattle.parts.specs.declared.Told.the-variants.{Accepted, Refused}
-use Rattle.parts.specs.declared.Refusal.the-variants.{NoWorker, NoLock, WorkerUnderWay, NotCollected, Length, Kind, Instruction, Guard, LastTurn, NoSheet, WorkerIdle, Range, Buffer, SheetFree, Held, NoWord, CallRecord}
+use Rattle.parts.specs.declared.Refusal.the-variants.{NoWorker, NoLock, WorkerUnderWay, NotCollected, Length, Kind, Instruction, Guard, LastTurn, WorkerIdle, Range, Buffer, SheetFree, Held, NoWord, CallRecord}
 use Rattle.refusals.specs.Orders.{Refuses}
 
 -- the refusal of a number and a place, and the answer of a number
@@ -27,14 +27,13 @@ refusalAt n p =
     (pick (eqb n 7) (Instruction p)
     (pick (eqb n 8) (Guard p)
     (pick (eqb n 9) LastTurn
-    (pick (eqb n 10) NoSheet
     (pick (eqb n 11) WorkerIdle
     (pick (eqb n 12) (Range p)
     (pick (eqb n 13) Buffer
     (pick (eqb n 14) SheetFree
     (pick (eqb n 15) (Held p)
     (pick (eqb n 16) NoWord
-    CallRecord)))))))))))))))
+    CallRecord))))))))))))))
 
 unfoldable answerAt : ℕ → Answer
 answerAt n = pick (eqb n 1) RanYes (pick (eqb n 2) RanNo (pick (eqb n 3) NotTaken Worn))
@@ -50,7 +49,6 @@ refusal-back Kind = refl
 refusal-back (Instruction p) = refl
 refusal-back (Guard p) = refl
 refusal-back LastTurn = refl
-refusal-back NoSheet = refl
 refusal-back WorkerIdle = refl
 refusal-back (Range p) = refl
 refusal-back Buffer = refl
@@ -74,26 +72,25 @@ number-one r s h k = sym (refusal-back r) ∙ rw (h, k) (refusal-back s)
 pub answer-one : (a b : Answer) → answerNumber a ≡ answerNumber b → a ≡ b
 answer-one a b h = sym (answer-back a) ∙ rw h (answer-back b)
 
--- "No." goes from 1 to 16, and request 01 adds 17
-pub number-range : (r : Refusal) → (1 ≤ refusalNumber r) × (refusalNumber r ≤ 17)
+-- "No." goes from 1 to 16, request 01 adds 17, and 10 is none's since request 06
+pub number-range : (r : Refusal) → (1 ≤ refusalNumber r) × (refusalNumber r ≤ 17) × (refusalNumber r ≢ 10)
 unfolding refusalNumber
-number-range NoWorker = (omega arith, omega arith)
-number-range NoLock = (omega arith, omega arith)
-number-range WorkerUnderWay = (omega arith, omega arith)
-number-range NotCollected = (omega arith, omega arith)
-number-range Length = (omega arith, omega arith)
-number-range Kind = (omega arith, omega arith)
-number-range (Instruction p) = (omega arith, omega arith)
-number-range (Guard p) = (omega arith, omega arith)
-number-range LastTurn = (omega arith, omega arith)
-number-range NoSheet = (omega arith, omega arith)
-number-range WorkerIdle = (omega arith, omega arith)
-number-range (Range p) = (omega arith, omega arith)
-number-range Buffer = (omega arith, omega arith)
-number-range SheetFree = (omega arith, omega arith)
-number-range (Held p) = (omega arith, omega arith)
-number-range NoWord = (omega arith, omega arith)
-number-range CallRecord = (omega arith, omega arith)
+number-range NoWorker = (omega arith, omega arith, λ h. omega arith)
+number-range NoLock = (omega arith, omega arith, λ h. omega arith)
+number-range WorkerUnderWay = (omega arith, omega arith, λ h. omega arith)
+number-range NotCollected = (omega arith, omega arith, λ h. omega arith)
+number-range Length = (omega arith, omega arith, λ h. omega arith)
+number-range Kind = (omega arith, omega arith, λ h. omega arith)
+number-range (Instruction p) = (omega arith, omega arith, λ h. omega arith)
+number-range (Guard p) = (omega arith, omega arith, λ h. omega arith)
+number-range LastTurn = (omega arith, omega arith, λ h. omega arith)
+number-range WorkerIdle = (omega arith, omega arith, λ h. omega arith)
+number-range (Range p) = (omega arith, omega arith, λ h. omega arith)
+number-range Buffer = (omega arith, omega arith, λ h. omega arith)
+number-range SheetFree = (omega arith, omega arith, λ h. omega arith)
+number-range (Held p) = (omega arith, omega arith, λ h. omega arith)
+number-range NoWord = (omega arith, omega arith, λ h. omega arith)
+number-range CallRecord = (omega arith, omega arith, λ h. omega arith)
 
 -- a call is refused with a refusal's number and place exactly when it is refused with it
 pub by-number :

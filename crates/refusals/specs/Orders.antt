@@ -1,4 +1,4 @@
--- Each call's order of refusals, one row for each test that document 01 names, and what demand 1 says of the calls by them: each
+-- Each call's order of refusals, one row for each test that document 01 and the requests name, and what demand 1 says of the calls by them: each
 -- refusal is given exactly when its row refuses and every row before it accepts, and a refused call changes nothing.
 mod Names
 use Names.*
@@ -9,7 +9,7 @@ use Rattle.records.specs.Setup.{setupKind, locksField, wordsField, guardsField,
 use Rattle.plain.specs.Plain.{plainOf, plainLeft}
 use Rattle.steps.specs.Worker.{onState}
 use Rattle.engine.specs.Calls.{setupOf, beginOf, stepOf, collectOf, dropOf, readWordOf, readLockOf, isFree, showOf, shownOf, parkOf, parkedOf}
-use Rattle.engine.specs.State.{blankOf, lockCount, wordCount, locksOf, wordsOf, workerAt, lockAt, freeSheet, programLength}
+use Rattle.engine.specs.State.{blankOf, lockCount, wordCount, locksOf, wordsOf, workerAt, lockAt, programLength}
 
 -- "A worker is idle, under way at a named point of its try, or finished with one of three answers", of four since request 03
 abbrev pub stateOf : Engine → ℕ → State
@@ -46,7 +46,7 @@ jobRows rec l guards =
     -- 7 and 8, each at "its place"
     codeRows (jobOf rec) 0 l guards
 
--- "Order for begin: 1, 3 or 4, 2", those of the record, "9, 10."
+-- "Order for begin: 1, 3 or 4, 2", those of the record, "9"; request 06: "10 removed"
 abbrev pub beginRows : Engine → ℕ → ℕ → List ℕ → List Told
 beginRows e w l rec =
     -- 1: "worker above 7"
@@ -59,10 +59,7 @@ beginRows e w l rec =
     refuseIf (leb (lockCount e) l) NoLock ∷
     jobRows rec l (guardsOf (wordsOf e)) ++
     -- 9: "begin: the lock is free with turn 67,108,864"
-    (refuseIf (wornOf (lockAt e l)) LastTurn ∷
-    -- 10: "begin: no free sheet"
-    refuseIf (leb sheets (freeSheet e)) NoSheet ∷
-    [])
+    (refuseIf (wornOf (lockAt e l)) LastTurn ∷ [])
 
 -- request 05, the plain engine: "16 if the tables differ in length or exceed 64, then 5, 6, 7 and 8 as in begin"
 abbrev pub plainRows : List ℕ → List ℕ → ℕ → List ℕ → List Told

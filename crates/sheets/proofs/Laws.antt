@@ -22,11 +22,11 @@ use Rattle.steps.specs.declared.Worker.{Worker}
 use Rattle.sheets.specs.Sheets.{anyOf, lockNames, workerKeeps, inUseOf, lowestOf}
 use Rattle.sheets.specs.Marks.{markedOf, sheetMarks, holderMarks, lockMarks, workerMarks, allMark, marksOf}
 
-or-none : (a : Bool) → (a or false) ≡ a
+pub or-none : (a : Bool) → (a or false) ≡ a
 or-none true = refl
 or-none false = refl
 
-or-assoc : (a b c : Bool) → ((a or b) or c) ≡ (a or (b or c))
+pub or-assoc : (a b c : Bool) → ((a or b) or c) ≡ (a or (b or c))
 or-assoc true b c = refl
 or-assoc false b c = refl
 

@@ -1,5 +1,5 @@
 // Which sheets are in use, by a table of marks, and the free one with the lowest number.
-ghost use Prim.Native.Nat.{_<_};
+ghost use Prim.Native.Nat.{_<_, _-_};
 ghost use mathlib.Core.Path.{_≡_};
 ghost use Rattle.parts.specs.Numbers.{sheets};
 ghost use Rattle.sheets.specs.Sheets.{inUseOf, freeSheetOf, lowestOf};
@@ -11,6 +11,9 @@ use parts::SHEETS;
 use parts::WORKERS;
 use steps::State;
 use steps::Worker;
+
+// The sheet with the highest number.
+const LAST: usize = SHEETS - 1;
 
 // Marks sheet s; a number that is no sheet's marks nothing.
 fn mark(marks: &mut [bool; SHEETS], s: u8)
@@ -93,7 +96,7 @@ pub fn in_use(locks: [LockWord; LOCKS], workers: [Worker; WORKERS], s: usize) ->
     marks[s]
 }
 
-// The free sheet with the lowest number, or the number of sheets where none is free.
+// The free sheet with the lowest number, or the last where none is free.
 pub fn free_sheet(locks: [LockWord; LOCKS], workers: [Worker; WORKERS]) -> u8
     ensures { λ r. ⌜ r ≡ freeSheetOf locks workers ⌝ }
 {
@@ -101,12 +104,12 @@ pub fn free_sheet(locks: [LockWord; LOCKS], workers: [Worker; WORKERS]) -> u8
     lowest_unmarked(marks)
 }
 
-// The lowest that is not marked.
+// The lowest that is not marked; the last, marked or not, where the others are.
 pub fn lowest_unmarked(marks: [bool; SHEETS]) -> u8
-    ensures { λ r. ⌜ r ≡ lowestOf (markedOf marks) 0 sheets ⌝ }
+    ensures { λ r. ⌜ r ≡ lowestOf (markedOf marks) 0 (sheets - 1) ⌝ }
 {
     let mut i: u8 = 0;
-    while (i as usize) < SHEETS {
+    while (i as usize) < LAST {
         let at = i as usize;
         let used = marks[at];
         if used {

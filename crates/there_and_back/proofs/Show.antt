@@ -17,7 +17,7 @@ use Rattle.records.specs.Job.{jobOf, jobRecord}
 use Rattle.records.proofs.Fours.{code-length}
 use Rattle.records.proofs.One.{job-back}
 use Rattle.sheets.specs.Sheets.{workerKeeps}
-use Rattle.sheets.proofs.Lowest.{takes-lowest, by-worker}
+use Rattle.sheets.proofs.Lowest.{by-worker}
 use Rattle.steps.specs.Worker.{worker0, lookingOf, beganOf}
 use Rattle.steps.specs.declared.Worker.{Worker}
 use Rattle.engine.specs.State.{inUse, freeSheet, workerAt, programLength, programOf, sheetRecord}
@@ -26,9 +26,10 @@ use Rattle.engine.specs.Inner.{Begins}
 use Rattle.engine.specs.declared.Engine.{Engine}
 use Rattle.engine.specs.declared.WriteTold.{WriteTold}
 use Rattle.ranges.specs.Good.{Good}
+use Rattle.ranges.proofs.Free.{begins-free}
 use Rattle.ranges.proofs.Keep.{good-begin}
 use Rattle.ranges.proofs.Laid.{lay-first}
-use Rattle.engine.proofs.Begins.{begins}
+use Rattle.engine.proofs.Begins.{begins, sheet-taken}
 use Rattle.ranges.proofs.Programs.{program-length, looks, begun-job}
 
 -- a call that tells it was accepted was, and gave the next state
@@ -125,7 +126,7 @@ show-begin e w l rec g b h =
     let t = begins e w l rec (a .0) in
     let e′ = beginOf e w l rec .engine in
     let next : e′ ≡ begunOf e w l rec s = a .1 in
-    shows-begun e e′ s rec (good-begin e w l rec g b) (t .sheet) (takes-lowest (e .lock) (e .worker) s refl (t .sheet) .0)
+    shows-begun e e′ s rec (good-begin e w l rec g b) (sheet-taken e) (begins-free e g w l rec t)
     (ap (λ (x : Engine). inUse x s) next ∙ begun-used e w l rec g t)
     (ap (λ (x : Engine). programOf x s) next ∙ begun-job e w l rec g t)
     (ap (λ (x : Engine). sheetRecord x s) next ∙ begun-bytes e w l rec g t b)

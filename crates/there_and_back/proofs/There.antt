@@ -8,31 +8,34 @@ use Rattle.engine.specs.State.{inUse, freeSheet, sheetRecord}
 use Rattle.engine.specs.Calls.{beginOf}
 use Rattle.engine.specs.declared.Engine.{Engine}
 use Rattle.ranges.specs.Good.{Good}
-use Rattle.past.specs.Past.{Call, Begin, Step, Collect, Drop, ReadWord, ReadLock, Show, Park, after, afterAll, stateAfter}
+use Rattle.past.specs.Past.{Call, Begin, Step, Collect, Drop, ReadWord, ReadLock, Show, Park, after, afterAll, AllRecords, stateAfter}
 use Rattle.there_and_back.specs.Records.{UsedAlong, Writes, ThereAndBack}
 use Rattle.ranges.proofs.Keep.{good-begin}
 use Rattle.there_and_back.proofs.Kept.{kept}
 use Rattle.ranges.proofs.Laid.{lay-first}
 use Rattle.there_and_back.proofs.Show.{show-begin, shows, shows-bytes}
 use Rattle.there_and_back.proofs.Park.{park-setup}
-use Rattle.ranges.proofs.Gave.{good-after, good-past}
+use Rattle.ranges.proofs.Gave.{good-call, good-after, good-past}
 
 -- one call, and a history, keep the record of a sheet in use
-kept-call : (e : Engine) (s : ℕ) (c : Call) → inUse e s ≡ true → sheetRecord (after e c) s ≡ sheetRecord e s
+kept-call : (e : Engine) (s : ℕ) (c : Call) → Good e → inUse e s ≡ true → sheetRecord (after e c) s ≡ sheetRecord e s
 unfolding after
-kept-call e s (Begin w l rec) u = kept e s u .begin w l rec
-kept-call e s (Step w) u = kept e s u .step w
-kept-call e s (Collect w) u = kept e s u .collect w
-kept-call e s (Drop w) u = kept e s u .drop w
-kept-call e s (ReadWord i) u = refl
-kept-call e s (ReadLock l) u = refl
-kept-call e s (Show t room) u = refl
-kept-call e s (Park room) u = refl
+kept-call e s (Begin w l rec) g u = kept e s g u .begin w l rec
+kept-call e s (Step w) g u = kept e s g u .step w
+kept-call e s (Collect w) g u = kept e s g u .collect w
+kept-call e s (Drop w) g u = kept e s g u .drop w
+kept-call e s (ReadWord i) g u = refl
+kept-call e s (ReadLock l) g u = refl
+kept-call e s (Show t room) g u = refl
+kept-call e s (Park room) g u = refl
 
-kept-along : (e : Engine) (s : ℕ) (h : List Call) → UsedAlong s e h → sheetRecord (afterAll e h) s ≡ sheetRecord e s
+kept-along :
+    (e : Engine) (s : ℕ) (h : List Call) → Good e → AllRecords h → UsedAlong s e h → sheetRecord (afterAll e h) s ≡ sheetRecord e s
 unfolding afterAll UsedAlong
-kept-along e s [] u = refl
-kept-along e s (c ∷ cs) u = kept-along (after e c) s cs (u .1) ∙ kept-call e s c (u .0)
+kept-along e s [] g b u = refl
+kept-along e s (c ∷ cs) g b u =
+    let next = good-call e c cs g b in
+    kept-along (after e c) s cs (next .0) (next .1) (u .1) ∙ kept-call e s c g (u .0)
 
 used-last : (e : Engine) (s : ℕ) (h : List Call) → UsedAlong s e h → inUse (afterAll e h) s ≡ true
 unfolding afterAll UsedAlong
@@ -59,8 +62,9 @@ there-and-back =
           let begun = beginOf e w l rec .engine in
           let s = freeSheet e in
           let took = show-begin e w l rec (good-past p) b a in
-          writes (afterAll begun later) s rec (good-after begun later (good-begin e w l rec (good-past p) b) c) (took .sheet)
-          (used-last begun s later u) (kept-along begun s later u ∙ took .bytes);
+          let good = good-begin e w l rec (good-past p) b in
+          writes (afterAll begun later) s rec (good-after begun later good c) (took .sheet) (used-last begun s later u)
+          (kept-along begun s later good c u ∙ took .bytes);
       used = λ p w l rec b a. show-begin (stateAfter p) w l rec (good-past p) b a .used;
       park =
           λ p buf n a.

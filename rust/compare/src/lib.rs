@@ -86,7 +86,7 @@ mod tests {
     fn equal_calls() {
         let pair = compare(1, 200_000, None, |_| ()).unwrap_or_else(|no| panic!("{no}"));
         assert!(pair.calls >= 200_000 && pair.readings >= 200_000);
-        // Every refusal but 10, which is out of reach, and accepted calls.
+        // Every refusal, of which none has number 10, and accepted calls.
         for number in (0..=16).filter(|&number| number != 10) {
             assert!(pair.told[number] >= 10, "{number}: {:?}", pair.told);
         }

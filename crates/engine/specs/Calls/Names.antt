@@ -13,7 +13,7 @@ pub use Rattle.parts.specs.Told.{onTold, refuseIf, firstOf}
 pub use Rattle.parts.specs.declared.Answer.{Answer}
 pub use Rattle.parts.specs.declared.Answer.the-variants.{NotTaken}
 pub use Rattle.parts.specs.declared.LockWord.{LockWord}
-pub use Rattle.parts.specs.declared.Refusal.the-variants.{NoWorker, NoLock, LastTurn, NoSheet, Range, Buffer, SheetFree, NoWord}
+pub use Rattle.parts.specs.declared.Refusal.the-variants.{NoWorker, NoLock, LastTurn, Range, Buffer, SheetFree, NoWord}
 pub use Rattle.parts.specs.declared.Told.{Told}
 pub use Rattle.parts.specs.declared.Told.the-variants.{Accepted, Refused}
 pub use Rattle.steps.specs.declared.Worker.{Worker}

@@ -37,7 +37,7 @@ use Rattle.helping.proofs.Ranges.{ranged}
 use Rattle.helping.proofs.Begin.{begin-ok}
 use Rattle.helping.proofs.Help.{Completed, completes}
 use Rattle.histories.proofs.map.Map.{rulesOf, sceneOf, taleOf, Under}
-use Rattle.histories.proofs.rules.Rules.{job-fine, free-unused, free-sheet}
+use Rattle.histories.proofs.rules.Rules.{job-fine, free-unused}
 use Rattle.past.proofs.Accepted.{begin-told, step-told}
 use Rattle.histories.proofs.simulation.Standing.{Standing, state-then, standing-then, guarded}
 use Rattle.histories.proofs.map.Steps.{step-is, begin-is}
@@ -95,19 +95,11 @@ alone-is K x s w h (suc n) =
 
 -- every idle worker may begin on a lock that isn't worn, with every valid job
 pub may-begin :
-    (x : Sofar) → Good (x .state) → (w l : ℕ) (rec : List ℕ) → l < lockCount (x .state) →
+    (x : Sofar) (w l : ℕ) (rec : List ℕ) → l < lockCount (x .state) →
     wornOf (lockAt (x .state) l) ≡ false → w < workers → workerAt (x .state) w .state ≡ Idle →
     jobTold rec l (guardsOf (wordsOf (x .state))) ≡ Accepted → Begins (x .state) w l rec
 unfolding steps.beginByState
-may-begin x g w l rec b h k i j =
-    record {
-      worker = k;
-      idle = rw i;
-      lock = b;
-      job = j;
-      worn = h;
-      sheet = free-sheet (x .state) g w k i;
-    }
+may-begin x w l rec b h k i j = record { worker = k; idle = rw i; lock = b; job = j; worn = h }
 
 held-not-worn : (x : LockWord) (s : ℕ) → x .holder ≡ By s → wornOf x ≡ false
 unfolding wornOf
@@ -117,7 +109,7 @@ pub told-accepted : (e : Engine) (w l : ℕ) (rec : List ℕ) → Begins e w l r
 unfolding beginTold
 told-accepted e w l rec b =
     rw
-    (lt-leb workers w (b .worker), b .idle, lt-leb (lockCount e) l (b .lock), b .job, b .worn, lt-leb sheets (freeSheet e) (b .sheet))
+    (lt-leb workers w (b .worker), b .idle, lt-leb (lockCount e) l (b .lock), b .job, b .worn)
 
 -- the state after the begin and n steps, in the theory's words
 pub helped-is :
@@ -141,13 +133,13 @@ pub completed :
     history.Completed e₀ x w l rec
 completed e₀ u₀ x s w l h rec below held seat idle bytes job =
     let K = rulesOf e₀ in
-    let b = may-begin x (s .good) w l rec below (held-not-worn (lockAt (x .state) l) h held) seat idle job in
+    let b = may-begin x w l rec below (held-not-worn (lockAt (x .state) l) h held) seat idle job in
     let E = sceneOf (x .state) in
     let D = machineBegun E w l (jobOf rec) (freeSheet (x .state)) in
     let T = beginTale (taleOf x) w l (jobOf rec) in
     let next =
     begin-ok K E (taleOf x) (s .next .st) (s .next .ok) w l (freeSheet (x .state)) (jobOf rec)
-    (free-unused (x .state) (s .good) (b .sheet)) (job-fine K (x .state) (s .good) (s .under) rec l job) in
+    (free-unused (x .state) (s .good) w l rec b) (job-fine K (x .state) (s .good) (s .under) rec l job) in
     let look = looking E w l (jobOf rec) (freeSheet (x .state)) in
     let done =
     completes K D T (next .st) (next .ok) w h (ap (λ (k : Worker). k .state) look)

@@ -19,6 +19,7 @@ use Rattle.engine.specs.Calls.{takenOf, begunOf}
 use Rattle.engine.specs.Inner.{Begins}
 use Rattle.engine.specs.State.{freeSheet, workerAt, withWorker}
 use Rattle.engine.specs.declared.Engine.{Engine}
+use Rattle.engine.proofs.Begins.{sheet-taken}
 use Rattle.helping.specs.Ok.{NotIdle}
 use Rattle.ranges.specs.Good.{Good}
 use Rattle.histories.specs.Filled.{madeFor, filledEntries}
@@ -119,7 +120,7 @@ module _ (x : Sofar) (g : Good (x .state)) (w l : ℕ) (rec : List ℕ) (b : Beg
     where
       go : (q : State) → workerAt e v .state ≡ q → Under q → helpedIn q ≡ By s → ⊥
       go Idle z u h = u
-      go (UnderWay p) z u h = free-unused e g (b .sheet) .helped v p z (h ∙ ap By n)
+      go (UnderWay p) z u h = free-unused e g w l rec b .helped v p z (h ∙ ap By n)
       go (Finished y) z u h = u
 
   hand-at :
@@ -172,11 +173,11 @@ module _ (x : Sofar) (g : Good (x .state)) (w l : ℕ) (rec : List ℕ) (b : Beg
       go true z =
           let n = eqb-true s s₀ z in
           ap made (latest-here s n) ∙ none-for L (x .fillings) (x .begins) (omega arith) (o .made) ∙
-          sym (ap (filledEntries now) n ∙ emptied-here (e .entry) s₀ (g .lengths .entry) (b .sheet))
+          sym (ap (filledEntries now) n ∙ emptied-here (e .entry) s₀ (g .lengths .entry) (sheet-taken e))
       go false z =
           let n = eqb-false s s₀ z in
           ap made (latest-there s n) ∙ o .sheet s (owned-back s n h) ∙
-          sym (emptied-there (e .entry) s₀ (g .lengths .entry) (b .sheet) s n)
+          sym (emptied-there (e .entry) s₀ (g .lengths .entry) (sheet-taken e) s n)
 
   bare-now : (s : ℕ) → length (M .owners s) ≡ 0 → filledEntries now s ≡ 0
   unfolding begunOf
@@ -189,7 +190,7 @@ module _ (x : Sofar) (g : Good (x .state)) (w l : ℕ) (rec : List ℕ) (b : Beg
           absurd (omega arith)
       go false z =
           let n = eqb-false s s₀ z in
-          emptied-there (e .entry) s₀ (g .lengths .entry) (b .sheet) s n ∙
+          emptied-there (e .entry) s₀ (g .lengths .entry) (sheet-taken e) s n ∙
           o .bare s (subst (λ (t : Bool). length (pick t (newTry x l rec ∷ x .owners s) (x .owners s)) ≡ 0) z h)
 
   begun-by : Keeps M now (λ v. pick (eqb v w) (newTry x l rec) (x .tries v) .number) (λ v. pick (eqb v w) 0 (x .steps v))

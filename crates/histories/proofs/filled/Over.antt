@@ -29,7 +29,7 @@ use Rattle.helping.proofs.Put.{put-case, all-but}
 use Rattle.past.specs.Past.{Drop}
 use Rattle.past.proofs.Accepted.{one-of, dropped-is, drop-told}
 use Rattle.ranges.specs.Good.{Good}
-use Rattle.ranges.proofs.Frame.{below-or-not}
+use Rattle.parts.proofs.Order.{below-or-not}
 use Rattle.histories.specs.Filled.{madeBy}
 use Rattle.histories.specs.Filling.{Filling}
 use Rattle.histories.specs.History.{Sofar, newTry, began, stepped, andNow, filledBy, thenOf}

@@ -33,6 +33,7 @@ use Rattle.engine.specs.Calls as engine
 use Rattle.engine.specs.Calls.{takenOf}
 use Rattle.engine.specs.Inner.{Begins}
 use Rattle.engine.specs.declared.Engine.{Engine}
+use Rattle.engine.proofs.Begins.{sheet-taken}
 use Rattle.engine.specs.declared.Places.{Places}
 use Rattle.engine.specs.declared.Sheet.{Sheet}
 use Rattle.helping.specs.Ideal.{Logs, Touches}
@@ -209,8 +210,8 @@ begin-is e g w l rec b =
     let program : sceneOf (takenOf e w l rec) .program ≡ put (sceneOf e .program) s (jobOf rec) =
     put-by (sceneOf e .program) (sceneOf (takenOf e w l rec) .program) s (jobOf rec) (begun-job e w l rec g b)
     (λ t d. begun-program e w l rec t d b) in
-    let done = set-put (λ (x : Sheet). x .done) (e .sheet) s job sheet0 (omega (arith, b .sheet, n .sheet)) in
-    let log = lay-log (e .entry) s (n .entry) (b .sheet) in
+    let done = set-put (λ (x : Sheet). x .done) (e .sheet) s job sheet0 (omega (arith, sheet-taken e, n .sheet)) in
+    let log = lay-log (e .entry) s (n .entry) (sheet-taken e) in
     let worker : sceneOf (takenOf e w l rec) .worker ≡ put (sceneOf e .worker) w (lookingOf l s) =
     set-put handOf (e .worker) w k worker0 (omega (arith, b .worker, n .worker)) ∙
     ap (λ (x : Worker). put (sceneOf e .worker) w (handOf x)) (looks (workerAt e w) l s (b .idle)) in

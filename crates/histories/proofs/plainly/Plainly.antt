@@ -98,7 +98,7 @@ module _
   seen = lockAt e l .turn
 
   begins : Begins e w l rec
-  begins = may-begin x (s .good) w l rec lock (not-worn (lockAt e l) free below) seat idle job
+  begins = may-begin x w l rec lock (not-worn (lockAt e l) free below) seat idle job
 
   fine : Fine K l code
   fine = job-fine K e (s .good) (s .under) rec l job

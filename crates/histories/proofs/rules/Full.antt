@@ -13,6 +13,7 @@ use Rattle.records.specs.Bytes.{AllBytes, u32sOf}
 use Rattle.records.specs.Job.{badlyFormed, codeTold, instrTold, instrsOf, toldBy, straysAt}
 use Rattle.records.specs.Setup.{guardsTold, setupTold, turnsTold}
 use Rattle.arrays.specs.Fresh.{wordsFrom}
+use Rattle.sheets.specs.Counted.{usedOf}
 use Rattle.sheets.specs.Sheets.{anyOf, inUseOf, lowestOf}
 use Rattle.steps.specs.Places.{helpedOf, spotOf}
 use Rattle.steps.specs.Try as try
@@ -23,8 +24,6 @@ use Rattle.engine.specs.Calls.{beginOf, beginTold, begunOf, collectOf, dropOf, 
 use Rattle.engine.specs.State.{blankOf, workerAt, inUse, freeSheet}
 use Rattle.past.specs.Past.{Call, Begin, Step, Drop, Collect, AllRecords, Past, after, afterAll, stateAfter}
 use Rattle.tables.proofs.Bytes.{allBelow, all-bytes}
-use Rattle.histories.specs.Filled.{sumOf}
-use Rattle.histories.specs.Used.{usedOf}
 use Rattle.histories.proofs.rules.Records.{both-records}
 
 -- 16 locks, one word; a job of one halt
@@ -81,5 +80,5 @@ pub record Full : Type 0 where
   pub begun : beginOf (stateAfter full) 0 0 halting .told ≡ Accepted
 
 pub thirty-used : Full
-unfolding wordsFrom asksOf followsOf wordOf lay parts.grabOf parts.releaseOf parts.swapOf committedOf holdsOf isFirst worker.countedOf registerOf withRegister wornOf u32sOf badlyFormed codeTold instrTold instrsOf toldBy straysAt guardsTold setupTold turnsTold anyOf inUseOf lowestOf helpedOf spotOf try.answerOf try.commitStep try.effectOf try.followStep try.grabStep try.lookAgainStep try.lookStep try.markStep try.readMarkStep try.readStep try.releaseStep try.swapStep worker.beganOf worker.beginByState worker.collectByState worker.collectedOf worker.dropByState worker.droppedOf worker.stepByState beginOf beginTold begunOf collectOf dropOf freshOf setupOf stepOf blankOf placesOf putAt viewAt after afterAll sumOf setup16 halting each full
+unfolding wordsFrom asksOf followsOf wordOf lay parts.grabOf parts.releaseOf parts.swapOf committedOf holdsOf isFirst worker.countedOf registerOf withRegister wornOf u32sOf badlyFormed codeTold instrTold instrsOf toldBy straysAt guardsTold setupTold turnsTold anyOf inUseOf lowestOf helpedOf spotOf try.answerOf try.commitStep try.effectOf try.followStep try.grabStep try.lookAgainStep try.lookStep try.markStep try.readMarkStep try.readStep try.releaseStep try.swapStep worker.beganOf worker.beginByState worker.collectByState worker.collectedOf worker.dropByState worker.droppedOf worker.stepByState beginOf beginTold begunOf collectOf dropOf freshOf setupOf stepOf blankOf placesOf putAt viewAt after afterAll usedOf setup16 halting each full
 thirty-used = record { idle = refl; thirty = refl; next = refl; begun = refl }

@@ -21,13 +21,12 @@ use Rattle.parts.specs.declared.Holder.{Holder}
 use Rattle.parts.specs.declared.LockWord.{LockWord}
 use Rattle.parts.specs.declared.Told.the-variants.{Accepted}
 use Rattle.parts.specs.declared.Word.{Word}
-use Rattle.parts.proofs.Order.{neither}
+use Rattle.parts.proofs.Order.{neither, below-or-not}
 use Rattle.records.specs.Bytes.{AllBytes}
 use Rattle.records.specs.Job.{jobOf, jobTold}
 use Rattle.records.specs.Setup.{guardsField, valuesField, setupTold}
 use Rattle.records.proofs.One.{setup-sized, guards-count, values-count}
 use Rattle.sheets.specs.Sheets.{anyOf, lockNames, workerKeeps, inUseOf}
-use Rattle.sheets.proofs.Lowest.{takes-lowest}
 use Rattle.steps.specs.Places.{helpedOf, names, keeps}
 use Rattle.steps.specs.Worker.{onState, worker0}
 use Rattle.steps.specs.declared.State.{State}
@@ -36,6 +35,7 @@ use Rattle.steps.specs.declared.State.the-variants.{Idle, UnderWay}
 use Rattle.steps.specs.declared.Worker.{Worker}
 use Rattle.engine.specs.State.{sheet0, blankOf, freeSheet, lockCount, wordCount, lockAt, wordAt, workerAt, wordsOf, baseOf}
 use Rattle.engine.specs.Calls.{freshOf, setupOf}
+use Rattle.engine.specs.Inner.{Begins}
 use Rattle.engine.specs.declared.Engine.{Engine}
 use Rattle.engine.specs.declared.Outcome.{Outcome}
 use Rattle.engine.specs.declared.Sheet.{Sheet}
@@ -46,14 +46,14 @@ use Rattle.ranges.specs.Good.{Good}
 use Rattle.past.specs.Past.{Call, Past, after, stateAfter}
 use Rattle.ranges.proofs.Bites.{bites-not}
 use Rattle.histories.proofs.rules.Fine.{told-fine}
-use Rattle.ranges.proofs.Frame.{All, pick-all, replicate-all, told-all, below-or-not}
+use Rattle.ranges.proofs.Frame.{All, pick-all, replicate-all, told-all}
 use Rattle.histories.proofs.rules.Guards.{guards-after}
 use Rattle.ranges.proofs.Keep.{good-setup}
 use Rattle.ranges.proofs.Laid.{lay-first}
 use Rattle.histories.proofs.map.Map.{handOf, rulesOf, sceneOf, Under}
 use Rattle.ranges.proofs.Fresh.{from-length, fresh-counts, fresh-free}
-use Rattle.histories.proofs.rules.Room.{room}
 use Rattle.histories.proofs.rules.Spare.{spare-past}
+use Rattle.ranges.proofs.Free.{begins-free}
 use Rattle.ranges.proofs.Gave.{good-past}
 
 -- the words that there are: how many, and each is the one in its place
@@ -182,14 +182,13 @@ not-kept k s p e q =
     neither (eqb (k .own) s) (names (helpedOf p) s)
     (sym (ap (λ (x : State). onState x false (λ p. eqb (k .own) s or names (helpedOf p) s) (λ x. false)) q) ∙ e)
 
--- the free sheet that begin takes is one that the theory may take
-pub free-unused : (e : Engine) → Good e → freeSheet e < sheets → Unused (sceneOf e) (freeSheet e)
+-- the sheet that begin takes is one that the theory may take
+pub free-unused :
+    (e : Engine) → Good e → (w l : ℕ) (rec : List ℕ) → Begins e w l rec → Unused (sceneOf e) (freeSheet e)
 unfolding inUseOf
-free-unused e g h =
+free-unused e g w l rec b =
     let s = freeSheet e in
-    let none =
-    neither (anyOf (lockNames s) (e .lock)) (anyOf (workerKeeps s) (e .worker))
-    (takes-lowest (e .lock) (e .worker) s refl h .0) in
+    let none = neither (anyOf (lockNames s) (e .lock)) (anyOf (workerKeeps s) (e .worker)) (begins-free e g w l rec b) in
     let named : (l : ℕ) → names (lockAt e l .holder) s ≡ false = none-has (lockNames s) (e .lock) lock0 (none .0) refl in
     let kept : (i : ℕ) → keeps (workerAt e i) s ≡ false = none-has (workerKeeps s) (e .worker) worker0 (none .1) refl in
     record {
@@ -197,13 +196,6 @@ free-unused e g h =
       owned = λ i p q. eqb-false (workerAt e i .own) s (not-kept (workerAt e i) s p (kept i) q .0);
       helped = λ i p q. not-named (helpedOf p) s (not-kept (workerAt e i) s p (kept i) q .1);
     }
-
--- there is a free sheet while a worker is idle: a lock names one sheet at most, and a worker under way keeps two
-pub free-sheet : (e : Engine) → Good e → (w : ℕ) → w < workers → workerAt e w .state ≡ Idle → freeSheet e < sheets
-free-sheet e g w h i =
-    let locks = g .lengths .lock in
-    let ks = g .lengths .worker in
-    room (e .lock) (e .worker) worker0 sheets w (omega arith) i (omega arith)
 
 -- a lock that is held is one of the L locks
 pub held-below : (p : Past) (l s : ℕ) → lockAt (stateAfter p) l .holder ≡ By s → l < lockCount (stateAfter p)

@@ -17,6 +17,8 @@ use Rattle.parts.specs.declared.Told.the-variants.{Accepted}
 use Rattle.records.specs.Setup.{locksField, turnsField, setupTold}
 use Rattle.records.proofs.One.{setup-sized, turns-count}
 use Rattle.sheets.specs.Sheets.{anyOf, lockNames, workerKeeps, inUseOf}
+use Rattle.sheets.proofs.Laws.{or-none}
+use Rattle.sheets.proofs.Lowest.{any-append}
 use Rattle.steps.specs.declared.Point.{Point}
 use Rattle.steps.specs.declared.State.the-variants.{UnderWay}
 use Rattle.engine.specs.State.{blankOf, lockCount, locksOf, inUse, workerAt}
@@ -104,24 +106,11 @@ spare-past p =
     spare-after (setupOf (p .setup) .engine) (p .calls) (good-setup (p .setup) (p .setupBytes)) (spare-setup (p .setup))
     (p .callsBytes)
 
--- some element of two lists, and of a list of one value that hasn't it
-pub any-append : {A : Type 0} (has : A → Bool) (xs ys : List A) → anyOf has (xs ++ ys) ≡ (anyOf has xs or anyOf has ys)
-unfolding anyOf
-any-append has [] ys = refl
-any-append has (x ∷ xs) ys = ap (λ (b : Bool). has x or b) (any-append has xs ys) ∙ assoc (has x)
-  where
-    assoc : (a : Bool) → (a or (anyOf has xs or anyOf has ys)) ≡ ((a or anyOf has xs) or anyOf has ys)
-    assoc true = refl
-    assoc false = refl
-
+-- some element of a list of one value that hasn't it
 any-none : {A : Type 0} (has : A → Bool) (x : A) (n : ℕ) → has x ≡ false → anyOf has (replicate n x) ≡ false
 unfolding anyOf
 any-none has x zero h = refl
 any-none has x (suc n) h = simp (h, any-none has x n h)
-
-pub or-false : (b : Bool) → (b or false) ≡ b
-or-false true = refl
-or-false false = refl
 
 -- "It is in use while a held lock names it": of the L locks
 pub in-use-locks : (p : Past) (s : ℕ) → inUse (stateAfter p) s ≡ inUseOf (locksOf (stateAfter p)) (stateAfter p .worker) s
@@ -137,5 +126,5 @@ in-use-locks p s =
     let named : anyOf (lockNames s) (e .lock) ≡ anyOf (lockNames s) few =
     ap (λ (l : List LockWord). anyOf (lockNames s) l) (sym (take-append-drop (lockCount e) (e .lock))) ∙
     any-append (lockNames s) few rest ∙ ap (λ (b : Bool). anyOf (lockNames s) few or b) none ∙
-    or-false (anyOf (lockNames s) few) in
+    or-none (anyOf (lockNames s) few) in
     ap (λ (b : Bool). b or anyOf (workerKeeps s) (e .worker)) named

@@ -1,148 +1,69 @@
--- Request 06: how many sheets are in use at a begin, of any numbers and of every state that calls gave; and that 10 is never told.
-use Prim.Native.Nat.{ℕ, _+_, _<_, _≤_}
+-- Request 06: how many sheets are in use at a begin, and which one it takes, of every state that calls gave; and that what it tells looks at
+-- none of them.
+use Prim.Native.Nat.{ℕ, _<_, _≤_}
 use native.Mathlib.Omega.{arith}
-use mathlib.Core.Bool.{Bool, true, false}
-use mathlib.Core.List.{List, [], _∷_}
-use mathlib.Core.Logic.{_≢_}
+use mathlib.Core.Bool.{Bool}
+use mathlib.Core.List.{List}
 use mathlib.Core.Path.{_≡_, refl, sym, ap, _∙_, subst}
 use lib.Dec.{leb}
 use lib.ListN.{length}
-use lib.Seq.{length-take-le}
-use borrow.Author.Tests.{leb-false, lt-leb}
+use lib.Seq.{length-take-le, getD-set-same}
 use Rattle.arrays.specs.Fresh.{guardsOf}
 use Rattle.parts.specs.Numbers.{workers, sheets}
 use Rattle.parts.specs.Parts.{wornOf}
-use Rattle.parts.specs.Pick.{_or_}
 use Rattle.parts.specs.Told.{refuseIf, _then_}
-use Rattle.parts.specs.declared.Instr.{Instr}
-use Rattle.parts.specs.declared.Refusal.{Refusal}
-use Rattle.parts.specs.declared.Refusal.the-variants.{NoWorker, NoLock, WorkerUnderWay, NotCollected, Length, Kind, Instruction, Guard, LastTurn, NoSheet}
+use Rattle.parts.specs.declared.Refusal.the-variants.{NoWorker, NoLock, LastTurn}
 use Rattle.parts.specs.declared.Told.{Told}
 use Rattle.parts.specs.declared.Told.the-variants.{Accepted, Refused}
-use Rattle.records.specs.Bytes.{wrongLength, kindField}
-use Rattle.records.specs.Job.{forms, jobOf, noJobKind, outsideKind, badlyFormed, endsOtherwise, straysAt, instrTold, codeTold, jobTold}
-use Rattle.records.proofs.Form.{told-by-form}
+use Rattle.records.specs.Job.{jobTold}
+use Rattle.sheets.specs.Counted.{usedOf, mostUsed}
 use Rattle.sheets.specs.Sheets.{inUseOf}
-use Rattle.steps.specs.Worker as worker
-use Rattle.steps.specs.Worker.{worker0}
-use Rattle.steps.specs.declared.State.{State}
-use Rattle.steps.specs.declared.State.the-variants.{Idle, UnderWay, Finished}
-use Rattle.engine.specs.Calls.{beginOf, beginTold}
-use Rattle.engine.specs.State.{inUse, locksOf, lockCount, lockAt, workerAt, wordsOf, freeSheet}
+use Rattle.sheets.proofs.Room.{used-most, room}
+use Rattle.steps.specs.Worker.{worker0, beginByState}
+use Rattle.steps.specs.declared.State.the-variants.{Idle}
+use Rattle.steps.specs.declared.Worker.{Worker}
+use Rattle.engine.specs.Calls.{outcomeOf, begunOf, takenOf, beginOf, beginTold}
+use Rattle.engine.specs.Inner.{Begins}
+use Rattle.engine.specs.State.{inUse, freeSheet, locksOf, lockCount, lockAt, workerAt, wordsOf}
 use Rattle.engine.specs.declared.Engine.{Engine}
 use Rattle.engine.specs.declared.Outcome.{Outcome}
-use Rattle.engine.proofs.Begins.{begins}
+use Rattle.engine.proofs.Begins.{begins, sheet-taken}
 use Rattle.past.specs.Past.{Past, stateAfter}
 use Rattle.past.proofs.Accepted.{idle-of, begin-told}
 use Rattle.ranges.specs.Good.{Good}
+use Rattle.ranges.proofs.Free.{free-lowest}
 use Rattle.ranges.proofs.Gave.{good-past}
-use Rattle.histories.specs.Used.{usedOf, mostUsed, Counted, Used}
-use Rattle.histories.proofs.rules.Room.{used-most, room}
-use Rattle.histories.proofs.rules.Rules.{free-sheet}
+use Rattle.ranges.proofs.Programs.{looks}
+use Rattle.histories.specs.Used.{LowestFree, Used, Unseen}
 use Rattle.histories.proofs.rules.Spare.{in-use-locks}
 
-pub counted : Counted
-counted =
-    record {
-      most = λ locks ks n w h i. used-most locks ks worker0 n w h i;
-      free = λ locks ks n w h i few. room locks ks worker0 n w h i few;
-    }
+-- what a begin tells is the first row that refuses
+outcome-told : (e : Engine) (t : Told) (next : Engine) → outcomeOf e t next .told ≡ t
+outcome-told e Accepted next = refl
+outcome-told e (Refused r) next = refl
 
--- no other row tells 10
-abbrev NotTen : Told → Type 0
-NotTen t = t ≢ Refused NoSheet
+begin-tells : (e : Engine) (w l : ℕ) (rec : List ℕ) → beginOf e w l rec .told ≡ beginTold e w l rec
+unfolding beginOf
+begin-tells e w l rec = outcome-told e (beginTold e w l rec) (takenOf e w l rec)
 
-accepted-not : NotTen Accepted
-accepted-not h = let z : _≡_ {A = ℕ} 0 1 = cc in absurd (omega arith)
+-- the sheet that an accepted begin takes is the worker's own then
+own-taken :
+    (e : Engine) → Good e → (w l : ℕ) (rec : List ℕ) → Begins e w l rec → workerAt (takenOf e w l rec) w .own ≡ freeSheet e
+unfolding begunOf
+own-taken e g w l rec b =
+    let n = g .lengths .worker in
+    let seat = b .worker in
+    ap (λ (k : Worker). k .own)
+    (getD-set-same (e .worker) w _ worker0 (omega arith) ∙ looks (workerAt e w) l (freeSheet e) (b .idle))
 
-then-not : (t u : Told) → NotTen t → NotTen u → NotTen (t then u)
-then-not Accepted u a b = b
-then-not (Refused r) u a b = a
-
-row-not : (b : Bool) (r : Refusal) → r ≢ NoSheet → NotTen (refuseIf b r)
-row-not true r d h = d (let q : r ≡ NoSheet = cc in q)
-row-not false r d h = accepted-not h
-
-instr-not : (i : Instr) (place left l : ℕ) (guards : List ℕ) → NotTen (instrTold i place left l guards)
-unfolding instrTold
-instr-not i place left l guards =
-    let bad = badlyFormed i left or endsOtherwise i left in
-    then-not (refuseIf bad (Instruction place)) (refuseIf (straysAt i l guards) (Guard place))
-    (row-not bad (Instruction place) (λ h. let z : _≡_ {A = ℕ} 0 1 = cc in absurd (omega arith)))
-    (row-not (straysAt i l guards) (Guard place) (λ h. let z : _≡_ {A = ℕ} 0 1 = cc in absurd (omega arith)))
-
-code-not : (is : List Instr) (place l : ℕ) (guards : List ℕ) → NotTen (codeTold is place l guards)
-unfolding codeTold
-code-not [] place l guards = accepted-not
-code-not (i ∷ is) place l guards =
-    then-not (instrTold i place (length is) l guards) (codeTold is (place + 1) l guards) (instr-not i place (length is) l guards)
-    (code-not is (place + 1) l guards)
-
-job-not : (rec : List ℕ) (l : ℕ) (guards : List ℕ) → NotTen (jobTold rec l guards)
-job-not rec l guards h =
-    then-not _ (codeTold (jobOf rec) 0 l guards)
-    (then-not (refuseIf (wrongLength rec) Length) _
-    (row-not (wrongLength rec) Length (λ h. let z : _≡_ {A = ℕ} 0 1 = cc in absurd (omega arith)))
-    (then-not (refuseIf (noJobKind forms (kindField rec)) Kind) (refuseIf (outsideKind forms (kindField rec) (length rec)) Length)
-    (row-not (noJobKind forms (kindField rec)) Kind (λ h. let z : _≡_ {A = ℕ} 0 1 = cc in absurd (omega arith)))
-    (row-not (outsideKind forms (kindField rec) (length rec)) Length (λ h. let z : _≡_ {A = ℕ} 0 1 = cc in absurd (omega arith)))))
-    (code-not (jobOf rec) 0 l guards) (sym (told-by-form forms rec l guards) ∙ h)
-
-never-told : (e : Engine) → Good e → (w l : ℕ) (rec : List ℕ) → NotTen (beginTold e w l rec)
-unfolding beginTold worker.beginByState
-never-told e g w l rec = seat (leb workers w) refl
-  where
-    -- the rows after the worker's
-    rest : Told
-    rest =
-        refuseIf (leb (lockCount e) l) NoLock then
-        (jobTold rec l (guardsOf (wordsOf e)) then
-        (refuseIf (wornOf (lockAt e l)) LastTurn then refuseIf (leb sheets (freeSheet e)) NoSheet))
-
-    rest-not : w < workers → workerAt e w .state ≡ Idle → NotTen rest
-    rest-not h i =
-        then-not (refuseIf (leb (lockCount e) l) NoLock) _
-        (row-not (leb (lockCount e) l) NoLock (λ h. let z : _≡_ {A = ℕ} 0 1 = cc in absurd (omega arith)))
-        (then-not (jobTold rec l (guardsOf (wordsOf e))) _ (job-not rec l (guardsOf (wordsOf e)))
-        (then-not (refuseIf (wornOf (lockAt e l)) LastTurn) (refuseIf (leb sheets (freeSheet e)) NoSheet)
-        (row-not (wornOf (lockAt e l)) LastTurn (λ h. let z : _≡_ {A = ℕ} 0 1 = cc in absurd (omega arith)))
-        (subst (λ (b : Bool). NotTen (refuseIf b NoSheet)) (sym (lt-leb sheets (freeSheet e) (free-sheet e g w h i))) accepted-not)))
-
-    state :
-        w < workers → (q : State) → workerAt e w .state ≡ q →
-        NotTen (worker.onState q Accepted (λ p. Refused WorkerUnderWay) (λ x. Refused NotCollected) then rest)
-    state h Idle i = rest-not h i
-    state h (UnderWay p) i = λ z. let y : _≡_ {A = ℕ} 0 1 = cc in absurd (omega arith)
-    state h (Finished a) i = λ z. let y : _≡_ {A = ℕ} 0 1 = cc in absurd (omega arith)
-
-    seat :
-        (b : Bool) → leb workers w ≡ b →
-        NotTen
-        (refuseIf b NoWorker then
-        (worker.onState (workerAt e w .state) Accepted (λ p. Refused WorkerUnderWay) (λ x. Refused NotCollected) then rest))
-    seat true h = λ z. let y : _≡_ {A = ℕ} 0 1 = cc in absurd (omega arith)
-    seat false h = state (leb-false workers w h) (workerAt e w .state) refl
-
-not-begun :
-    (e : Engine) → Good e → (w l : ℕ) (rec : List ℕ) → beginOf e w l rec .told ≡ Refused NoSheet → (t : Told) → beginTold e w l rec ≡ t → ⊥
-not-begun e g w l rec h Accepted q =
-    accepted-not (sym (ap (λ (o : Outcome). o .told) (begin-told e w l rec Accepted q)) ∙ h)
-not-begun e g w l rec h (Refused r) q =
-    never-told e g w l rec (q ∙ sym (ap (λ (o : Outcome). o .told) (begin-told e w l rec (Refused r) q)) ∙ h)
-
--- a begin that is accepted is one of a worker that is idle
-begins-idle :
-    (e : Engine) (w l : ℕ) (rec : List ℕ) → beginOf e w l rec .told ≡ Accepted → (w < workers) × (workerAt e w .state ≡ Idle)
-begins-idle e w l rec h = go (beginTold e w l rec) refl
-  where
-    go : (t : Told) → beginTold e w l rec ≡ t → (w < workers) × (workerAt e w .state ≡ Idle)
-    go Accepted q =
-        let b = begins e w l rec q in
-        (b .worker, idle-of (workerAt e w) (b .idle))
-    go (Refused r) q =
-        let told = ap (λ (o : Outcome). o .told) (begin-told e w l rec (Refused r) q) in
-        let z : _≡_ {A = ℕ} 0 1 = cc in
-        absurd (omega arith)
+takes-lowest :
+    (e : Engine) → Good e → (w l : ℕ) (rec : List ℕ) → beginTold e w l rec ≡ Accepted →
+    LowestFree e (workerAt (beginOf e w l rec .engine) w .own)
+takes-lowest e g w l rec h =
+    let b = begins e w l rec h in
+    let own = ap (λ (o : Outcome). workerAt (o .engine) w .own) (begin-told e w l rec Accepted h) ∙ own-taken e g w l rec b in
+    let lowest = free-lowest e g w (b .worker) (idle-of (workerAt e w) (b .idle)) in
+    subst (LowestFree e) (sym own) (record { sheet = sheet-taken e; free = lowest .0; below = lowest .1 })
 
 pub used : (p : Past) → Used (stateAfter p)
 used p =
@@ -158,7 +79,30 @@ used p =
     record {
       most = most;
       thirty = refl;
-      atBegin = λ w l rec h. let i = begins-idle e w l rec h in omega (arith, most w (i .0) (i .1));
+      atBegin =
+          λ w l rec h.
+          let b = begins e w l rec (sym (begin-tells e w l rec) ∙ h) in
+          omega (arith, most w (b .worker) (idle-of (workerAt e w) (b .idle)));
       free = λ w h i. let all = g .lengths .lock in room (e .lock) (e .worker) worker0 _ w (omega arith) i (omega arith);
-      never = λ w l rec h. not-begun e g w l rec h (beginTold e w l rec) refl;
+      takes = λ w l rec h. takes-lowest e g w l rec (sym (begin-tells e w l rec) ∙ h);
+    }
+
+-- begin's rows, of what they look at
+rowsOf : ℕ → List ℕ → Told → Bool → ℕ → ℕ → List ℕ → Told
+rowsOf locks guards may worn w l rec =
+    refuseIf (leb workers w) NoWorker then
+    (may then (refuseIf (leb locks l) NoLock then (jobTold rec l guards then refuseIf worn LastTurn)))
+
+begin-sees :
+    (e : Engine) (w l : ℕ) (rec : List ℕ) →
+    beginOf e w l rec .told ≡ rowsOf (lockCount e) (guardsOf (wordsOf e)) (beginByState (workerAt e w)) (wornOf (lockAt e l)) w l rec
+unfolding beginTold rowsOf
+begin-sees e w l rec = begin-tells e w l rec
+
+pub unseen : Unseen
+unseen =
+    record {
+      told =
+          λ e e′ w l rec locks guards may worn.
+          begin-sees e w l rec ∙ (λ i. rowsOf (locks i) (guards i) (may i) (worn i) w l rec) ∙ sym (begin-sees e′ w l rec);
     }

@@ -46,7 +46,7 @@ module _ (K : Rules) (x : Sofar) (g : Good (x .state)) (u : Under K (x .state)) 
       (w l : ℕ) (rec : List ℕ) → Begins (x .state) w l rec → Sim K x (began x w l rec (takenOf (x .state) w l rec))
   begun-sim w l rec b =
       begun w l (freeSheet (x .state)) (jobOf rec) (idle-of (workerAt (x .state) w) (b .idle))
-      (free-unused (x .state) g (b .sheet)) (job-fine K (x .state) g u rec l (b .job))
+      (free-unused (x .state) g w l rec b) (job-fine K (x .state) g u rec l (b .job))
       (begin-is (x .state) g w l rec b) refl refl
 
   moved-sim :

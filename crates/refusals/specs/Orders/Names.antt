@@ -14,7 +14,7 @@ pub use Rattle.parts.specs.declared.Answer.{Answer}
 pub use Rattle.parts.specs.declared.Instr.{Instr}
 pub use Rattle.parts.specs.declared.LockWord.{LockWord}
 pub use Rattle.parts.specs.declared.Refusal.{Refusal}
-pub use Rattle.parts.specs.declared.Refusal.the-variants.{NoWorker, NoLock, WorkerUnderWay, NotCollected, Length, Kind, Instruction, Guard, LastTurn, NoSheet, WorkerIdle, Range, Buffer, SheetFree, Held, NoWord}
+pub use Rattle.parts.specs.declared.Refusal.the-variants.{NoWorker, NoLock, WorkerUnderWay, NotCollected, Length, Kind, Instruction, Guard, LastTurn, WorkerIdle, Range, Buffer, SheetFree, Held, NoWord}
 pub use Rattle.parts.specs.declared.Told.{Told}
 pub use Rattle.parts.specs.declared.Told.the-variants.{Accepted, Refused}
 pub use Rattle.steps.specs.declared.Point.{Point}

@@ -11,10 +11,10 @@ use Rattle.sheets.proofs.lowest_unmarked.Statement.{statement}
 use Rattle.sheets.proofs.lowest_unmarked.Tie as tie
 
 abbrev Inv-loop : tie.InvT-loop
-Inv-loop marks i₀ i = (i ≤ sheets) × (lowestOf (markedOf marks) 0 sheets ≡ lowestOf (markedOf marks) i (sheets - i))
+Inv-loop marks i₀ i = (i ≤ sheets - 1) × (lowestOf (markedOf marks) 0 (sheets - 1) ≡ lowestOf (markedOf marks) i (sheets - 1 - i))
 
 abbrev μ-loop : tie.MeasureT-loop
-μ-loop marks i₀ i = sheets - i
+μ-loop marks i₀ i = sheets - 1 - i
 
 pub lowest-unmarked-spec : {M : Type 1} → statement M
 lowest-unmarked-spec =

@@ -1,6 +1,6 @@
--- How many sheets are in use: a held lock names one, a worker under way keeps two at most, any other none. So a sheet is free
--- while a worker is idle. It is counted over any numbers of locks, workers and sheets.
-use Prim.Native.Nat.{ℕ, zero, suc, _+_, _*_, _≤_, _<_}
+-- How many sheets are in use: a held lock names one, a worker under way keeps two at most, any other none. So with
+-- enough sheets one is free while a worker is idle. It is counted over any numbers of locks, workers and sheets.
+use Prim.Native.Nat.{ℕ, zero, suc, _+_, _*_, _-_, _≤_, _<_}
 use native.Mathlib.Nat.{mul-suc}
 use native.Mathlib.Omega.{arith}
 use mathlib.Core.Logic.{⊎-elim}
@@ -10,21 +10,21 @@ use mathlib.Core.List.{List, [], _∷_, _++_}
 use lib.Dec.{eqb, ltb}
 use lib.ListN.{length, getD, length-append}
 use borrow.Author.Tests.{eqb-true, eqb-false, ltb-true, ltb-false, lt-ltb, le-ltb}
+use Rattle.parts.specs.Numbers.{sheets}
 use Rattle.parts.specs.Pick.{pick, _or_}
 use Rattle.parts.specs.declared.Holder.{Holder}
 use Rattle.parts.specs.declared.Holder.the-variants.{Free, By}
 use Rattle.parts.specs.declared.LockWord.{LockWord}
-use Rattle.sheets.specs.Sheets.{anyOf, lockNames, workerKeeps, inUseOf, lowestOf}
-use Rattle.sheets.proofs.Lowest.{lowest-is}
+use Rattle.parts.proofs.Order.{below-or-not}
 use Rattle.steps.specs.Places.{helpedOf, names, keeps}
-use Rattle.steps.specs.Worker.{onState}
+use Rattle.steps.specs.Worker.{onState, worker0}
 use Rattle.steps.specs.declared.State.{State}
 use Rattle.steps.specs.declared.State.the-variants.{Idle, UnderWay, Finished}
 use Rattle.steps.specs.declared.Worker.{Worker}
-use Rattle.ranges.proofs.Frame.{pick-all, state-all, below-or-not}
-use Rattle.histories.specs.Filled.{sumOf}
-use Rattle.histories.specs.Used.{usedOf, mostUsed}
-use Rattle.histories.proofs.rules.Spare.{any-append, or-false}
+use Rattle.sheets.specs.Counted.{usedOf, mostUsed, Counted}
+use Rattle.sheets.specs.Sheets.{anyOf, lockNames, workerKeeps, inUseOf, lowestOf, freeSheetOf}
+use Rattle.sheets.proofs.Laws.{or-none}
+use Rattle.sheets.proofs.Lowest.{lowest-is, lowest-free, lowest-within, any-append}
 
 -- how many of the numbers have it
 tally : (ℕ → Bool) → List ℕ → ℕ
@@ -34,9 +34,11 @@ tally has (x ∷ xs) = pick (has x) 1 0 + tally has xs
 tally-most : (has : ℕ → Bool) (xs : List ℕ) → tally has xs ≤ length xs
 unfolding tally
 tally-most has [] = omega arith
-tally-most has (x ∷ xs) =
-    let rest = tally-most has xs in
-    pick-all (λ n. n + tally has xs ≤ suc (length xs)) (has x) 1 0 (omega arith) (omega arith)
+tally-most has (x ∷ xs) = go (has x) (tally-most has xs)
+  where
+    go : (b : Bool) → tally has xs ≤ length xs → pick b 1 0 + tally has xs ≤ suc (length xs)
+    go true rest = omega arith
+    go false rest = omega arith
 
 tally-some : (has : ℕ → Bool) (xs : List ℕ) → anyOf has xs ≡ true → 1 ≤ tally has xs
 unfolding tally anyOf
@@ -79,7 +81,7 @@ pigeon xs n all = omega (arith, below n (λ j h. all j h), tally-most (λ x. ltb
 
 -- of the numbers 0 .. n - 1, a list has no more in it than it is long
 in-list : (xs : List ℕ) (n : ℕ) → usedOf (λ s. anyOf (λ x. eqb x s) xs) n ≤ length xs
-unfolding sumOf
+unfolding usedOf
 in-list xs n = omega (arith, below n, tally-most (λ x. ltb x n) xs)
   where
     below : (m : ℕ) → usedOf (λ s. anyOf (λ x. eqb x s) xs) m ≤ tally (λ x. ltb x m) xs
@@ -137,7 +139,7 @@ keptBy k = onState (k .state) [] (λ p. k .own ∷ namedBy (helpedOf p)) (λ x. 
 named-is : (s : ℕ) (h : Holder) → anyOf (λ x. eqb x s) (namedBy h) ≡ names h s
 unfolding namedBy anyOf
 named-is s Free = refl
-named-is s (By t) = or-false (eqb t s)
+named-is s (By t) = or-none (eqb t s)
 
 named-most : (h : Holder) → length (namedBy h) ≤ 1
 unfolding namedBy
@@ -158,9 +160,12 @@ kept-is s k = go (k .state)
 
 kept-most : (k : Worker) → length (keptBy k) ≤ 2
 unfolding keptBy
-kept-most k =
-    state-all (λ (l : List ℕ). length l ≤ 2) (k .state) [] (λ p. k .own ∷ namedBy (helpedOf p)) (λ x. []) (λ q. omega arith)
-    (λ p q. omega (arith, named-most (helpedOf p))) (λ x q. omega arith)
+kept-most k = go (k .state)
+  where
+    go : (x : State) → length (onState x [] (λ p. k .own ∷ namedBy (helpedOf p)) (λ x. [])) ≤ 2
+    go Idle = omega arith
+    go (UnderWay p) = omega (arith, named-most (helpedOf p))
+    go (Finished x) = omega arith
 
 kept-none : (k : Worker) → k .state ≡ Idle → length (keptBy k) ≡ 0
 unfolding keptBy
@@ -213,3 +218,21 @@ room locks ks d n w h i few = ⊎-elim (λ q. q) (λ q. absurd (full q)) (below-
         pigeon (heldIn locks ++ gather keptBy ks) n
         (λ j l. sym (used-is locks ks j) ∙ lowest-is (inUseOf locks ks) 0 n .below j (omega arith) (omega arith)) in
         omega (arith, all-most locks ks d w h i)
+
+pub counted : Counted
+counted =
+    record {
+      most = λ locks ks n w h i. used-most locks ks worker0 n w h i;
+      free = λ locks ks n w h i few. room locks ks worker0 n w h i few;
+    }
+
+-- "Begin takes the free sheet with the lowest number": with so few locks and workers there is one
+pub takes-lowest :
+    (locks : List LockWord) (ks : List Worker) (w : ℕ) → w < length ks → getD ks w worker0 .state ≡ Idle →
+    mostUsed (length locks) (length ks) < sheets →
+    (inUseOf locks ks (freeSheetOf locks ks) ≡ false) × ((j : ℕ) → j < freeSheetOf locks ks → inUseOf locks ks j ≡ true)
+takes-lowest locks ks w h i few =
+    let used = inUseOf locks ks in
+    let one = room locks ks worker0 sheets w h i few in
+    let same : lowestOf used 0 sheets ≡ freeSheetOf locks ks = sym (lowest-within used (sheets - 1) sheets one (omega arith)) in
+    lowest-free used sheets (freeSheetOf locks ks) same (omega arith)

@@ -2,12 +2,14 @@
 use borrow.Author.Needs.{needs}
 use Rattle.parts.proofs.Laws.{laws, order, calls}
 use Rattle.steps.specs.Worker.{beginByState}
+use Rattle.engine.specs.Calls.{beginTold}
 use Rattle.lent_in.proofs.Begins.{said-of}
-use Rattle.lent_in.proofs.check.early_told.Statement.{statement}
-use Rattle.lent_in.proofs.check.early_told.Tie as tie
+use Rattle.lent_in.proofs.check.begin_told.Statement.{statement}
+use Rattle.lent_in.proofs.check.begin_told.Tie as tie
 
-pub early-told-spec : {M : Type 1} → statement M
-early-told-spec =
+pub begin-told-spec : {M : Type 1} → statement M
+unfolding beginTold
+begin-told-spec =
     tie.close
     (tie.spec
     (λ c. search (order, laws, calls, said-of beginByState) depth 8)
