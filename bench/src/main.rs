@@ -1,10 +1,11 @@
 //! The benchmark: nanoseconds a step, of the archive, of the second program
 //! and of the engine by value where that can be timed (build.rs), and
-//! nanoseconds a job of the plain engine, in one run; the stack of each exported function; the size of a state; instructions a
+//! nanoseconds a begin and a job of the plain engine, in one run; the stack of each exported function; the size of a state; instructions a
 //! call, beside the second program and a plain C engine, which is first held
 //! against the archive. It writes Markdown. It is no test: its figures vary
 //! with where and, but for the instructions, when it runs.
 
+mod begins;
 mod callers;
 mod callgrind;
 mod count;
@@ -221,6 +222,7 @@ fn write(archive: &str) -> Result<(), String> {
     let held = hold()?;
     workers_table();
     setups_table();
+    begins::table();
     plainly::table(&Game::new(1, 2, 1).job);
     stack_table(archive)?;
     println!("\nA state: {NUMBERS} numbers, {} bytes.", 4 * NUMBERS);

@@ -1,25 +1,31 @@
 -- What begin makes of the lent numbers, and of the state that they say.
-use Prim.Native.Nat.{ℕ, _-_, _/_, _<_}
+use Prim.Native.Nat.{ℕ, _-_, _/_, _≤_, _<_}
 use mathlib.Core.Bool.{false}
 use mathlib.Core.List.{List}
-use mathlib.Core.Path.{_≡_, _∙_, sym, ap}
+use mathlib.Core.Path.{_≡_, refl, _∙_, sym, ap}
 use native.Mathlib.Omega.{arith}
 use lib.ListN.{length, take, drop, replicate, length-drop}
-use Rattle.parts.specs.Numbers.{sheets, instructions}
+use Rattle.parts.specs.Numbers.{workers, sheets, instructions}
 use Rattle.parts.specs.Parts.{instr0, entry0}
 use Rattle.parts.specs.declared.Refusal.{Refusal}
+use Rattle.parts.specs.declared.Refusal.the-variants.{WorkerUnderWay, NotCollected}
 use Rattle.parts.specs.declared.Told.{Told}
 use Rattle.parts.specs.declared.Told.the-variants.{Accepted, Refused}
 use Rattle.records.specs.Job.{instrsOf, jobOf}
 use Rattle.records.proofs.Fours.{instrs-length}
 use Rattle.records.proofs.Laws.{part-end}
-use Rattle.steps.specs.Worker.{beganOf}
+use Rattle.steps.specs.Worker as steps
+use Rattle.steps.specs.Worker.{onState, lookingOf, beganOf}
+use Rattle.steps.specs.declared.State.{State}
+use Rattle.steps.specs.declared.State.the-variants.{Idle, UnderWay, Finished}
 use Rattle.steps.specs.declared.Worker.{Worker}
 use Rattle.engine.specs.Calls.{beginTold, begunOf, beginOf}
 use Rattle.engine.proofs.Begins.{sheet-taken}
 use Rattle.engine.specs.State.{workerAt, freeSheet, baseOf, withWorker}
-use Rattle.cells.specs.Layout.{instrPart, entryPart, unpack, putSheet, putWorker}
+use Rattle.cells.specs.Codes.{atTag, idleTag, releaseTag}
+use Rattle.cells.specs.Layout.{instrPart, entryPart, unpack, numberAt, putSheet, putWorker}
 use Rattle.cells.specs.State.{withSheet}
+use Rattle.cells.proofs.Tags.{tag-idle, tag-way, tag-end}
 use Rattle.lent_in.specs.Calls.{copiedNumbers, copiedOf, begunNumbers, beginNumbers}
 use Rattle.lent_in.specs.Laid.{layProgram, layLog, Laid}
 use Rattle.lent_in.proofs.Loops.{Did}
@@ -37,11 +43,37 @@ copied-by s t u v rec sheet a b c = (
   c .1 ∙ simp (b .1, a .1, part-end 4 rec),
 )
 
+-- an idle worker that begins is to look at its lock
+pub began-is : (k : Worker) (l sheet : ℕ) → steps.beginByState k ≡ Accepted → beganOf k l sheet ≡ lookingOf l sheet
+unfolding beganOf steps.beginByState
+began-is k l sheet h = go (k .state) h
+  where
+    go :
+        (q : State) → onState q Accepted (λ p. Refused WorkerUnderWay) (λ x. Refused NotCollected) ≡ Accepted →
+        onState q (lookingOf l sheet) (λ p. k) (λ x. k) ≡ lookingOf l sheet
+    go Idle e = refl
+    go (UnderWay p) e = let z : _≡_ {A = ℕ} 0 1 = cc in absurd (omega arith)
+    go (Finished x) e = let z : _≡_ {A = ℕ} 0 1 = cc in absurd (omega arith)
+
+-- may it begin? by its tag
+module _ (s : List ℕ) (w : ℕ) (b : w < workers) (tag : ℕ) (e : tag ≡ numberAt s w atTag) where
+  pub begin-idle : tag ≡ idleTag → Accepted ≡ steps.beginByState (workerAt (unpack s) w)
+  unfolding steps.beginByState
+  begin-idle q = simp (tag-idle s w b tag e q)
+
+  pub begin-way : (tag ≡ idleTag → ⊥) → tag ≤ releaseTag → Refused WorkerUnderWay ≡ steps.beginByState (workerAt (unpack s) w)
+  unfolding steps.beginByState
+  begin-way q h = sym (tag-way s w b _ _ _ tag e q h)
+
+  pub begin-end : releaseTag < tag → Refused NotCollected ≡ steps.beginByState (workerAt (unpack s) w)
+  unfolding steps.beginByState
+  begin-end h = simp (tag-end s w b tag e h)
+
 -- the sheet and the worker were written after that
 pub begun-by :
-    (s t u v rec : List ℕ) (w l sheet n : ℕ) (k next : Worker) →
-    k ≡ workerAt (unpack s) w →
-    next ≡ beganOf k l sheet →
+    (s t u v rec : List ℕ) (w l sheet n : ℕ) (next : Worker) →
+    steps.beginByState (workerAt (unpack s) w) ≡ Accepted →
+    next ≡ lookingOf l sheet →
     (t ≡ copiedNumbers s rec sheet) × (unpack t ≡ copiedOf (unpack s) rec sheet) →
     n ≡ (length rec - 4) / 4 →
     (u ≡ putSheet t sheet (record { length = n; done = false })) ×
@@ -49,10 +81,11 @@ pub begun-by :
     (v ≡ putWorker u w next) × (unpack v ≡ withWorker (unpack u) w next) →
     (v ≡ begunNumbers s w l rec sheet) × (unpack v ≡ begunOf (unpack s) w l rec sheet)
 unfolding begunNumbers begunOf copiedOf
-begun-by s t u v rec w l sheet n k next e b c m x y =
-    let j : length (jobOf rec) ≡ n = instrs-length (drop 4 rec) ∙ ap (λ (i : ℕ). i / 4) (length-drop 4 rec) ∙ sym m in (
-      y .0 ∙ simp (x .0, c .0, b, e, j),
-      y .1 ∙ simp (x .1, c .1, b, e, j),
+begun-by s t u v rec w l sheet n next i b c m x y =
+    let j : length (jobOf rec) ≡ n = instrs-length (drop 4 rec) ∙ ap (λ (i : ℕ). i / 4) (length-drop 4 rec) ∙ sym m in
+    let k : next ≡ beganOf (workerAt (unpack s) w) l sheet = b ∙ sym (began-is (workerAt (unpack s) w) l sheet i) in (
+      y .0 ∙ simp (x .0, c .0, k, j),
+      y .1 ∙ simp (x .1, c .1, k, j),
     )
 
 -- some row refuses: nothing changed

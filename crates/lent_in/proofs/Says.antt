@@ -10,7 +10,6 @@ use Rattle.arrays.specs.Fresh.{wordsFrom, freeAt}
 use Rattle.parts.specs.Numbers.{mostLocks, mostWords, sheets, instructions}
 use Rattle.parts.specs.Parts.{instr0, entry0}
 use Rattle.parts.specs.Told.{onTold}
-use Rattle.parts.specs.declared.Refusal.the-variants.{WorkerUnderWay, NotCollected}
 use Rattle.parts.specs.declared.Told.{Told}
 use Rattle.parts.specs.declared.Told.the-variants.{Accepted, Refused}
 use Rattle.records.specs.Bytes.{AllBytes}
@@ -18,10 +17,7 @@ use Rattle.records.specs.Job.{instrsOf, jobOf}
 use Rattle.records.specs.Setup.{locksField, wordsField, guardsField, valuesField, turnsField, setupTold}
 use Rattle.records.proofs.One.{setup-sized, guards-count, turns-count}
 use Rattle.records.proofs.Takes.{guards-below}
-use Rattle.steps.specs.Worker as steps
-use Rattle.steps.specs.Worker.{onState, lookingOf, beganOf}
-use Rattle.steps.specs.declared.State.{State}
-use Rattle.steps.specs.declared.State.the-variants.{Idle, UnderWay, Finished}
+use Rattle.steps.specs.Worker.{lookingOf, beganOf}
 use Rattle.steps.specs.declared.Worker.{Worker}
 use Rattle.engine.specs.Calls.{outcomeOf, freshOf, setupOf, beginTold, begunOf, takenOf, beginOf}
 use Rattle.engine.specs.Inner.{Begins}
@@ -36,6 +32,7 @@ use Rattle.cells.proofs.Pieces.{length-put}
 use Rattle.cells.proofs.Unpack.{Says, Puts, unpack-worker, unpack-lock, unpack-word, unpack-sheet, unpack-instr, unpack-entry, unpack-sizes, unpack-blanked, length-sizes, length-blanked}
 use Rattle.lent_in.specs.Calls.{filledNumbers, filledOf, setupNumbers, copiedNumbers, copiedOf, sheetFor, begunNumbers, beginNumbers}
 use Rattle.lent_in.specs.Laid.{putAll, layWords, layLocks, layProgram, layLog}
+use Rattle.lent_in.proofs.Begins.{began-is}
 use Rattle.lent_in.proofs.Filled.{fresh-is}
 use Rattle.lent_in.proofs.Loops.{Lays, lays-words, lays-locks, lays-program, lays-log}
 
@@ -150,17 +147,6 @@ copied-says s rec sheet h b bytes m =
           (y .0 ∙ ap (λ (e : Engine). layProgram e base (jobOf rec)) (x .0)),
       z .1 ∙ y .1 ∙ x .1,
     )
-
-began-is : (k : Worker) (l sheet : ℕ) → steps.beginByState k ≡ Accepted → beganOf k l sheet ≡ lookingOf l sheet
-unfolding beganOf steps.beginByState
-began-is k l sheet h = go (k .state) h
-  where
-    go :
-        (q : State) → onState q Accepted (λ p. Refused WorkerUnderWay) (λ x. Refused NotCollected) ≡ Accepted →
-        onState q (lookingOf l sheet) (λ p. k) (λ x. k) ≡ lookingOf l sheet
-    go Idle e = refl
-    go (UnderWay p) e = let z : _≡_ {A = ℕ} 0 1 = cc in absurd (omega arith)
-    go (Finished x) e = let z : _≡_ {A = ℕ} 0 1 = cc in absurd (omega arith)
 
 begun-says :
     (s : List ℕ) (w l : ℕ) (rec : List ℕ) → numbers ≤ length s → AllBytes rec → Begins (unpack s) w l rec →

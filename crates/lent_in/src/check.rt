@@ -3,14 +3,18 @@ ghost use mathlib.Core.Path.{_≡_};
 ghost use Prim.Native.Nat.{_≤_, _<_};
 ghost use lib.ListN.{length};
 ghost use Rattle.arrays.specs.Fresh.{guardsOf};
-ghost use Rattle.parts.specs.Numbers.{mostLocks};
+ghost use Rattle.parts.specs.Numbers.{workers, mostLocks};
 ghost use Rattle.parts.specs.Parts.{wornOf};
 ghost use Rattle.parts.specs.Told.{firstOf, refuseIf};
 ghost use Rattle.parts.specs.declared.Refusal.the-variants.{LastTurn};
 ghost use Rattle.records.specs.Job.{jobTold};
+ghost use Rattle.steps.specs.Worker.{beginByState};
 ghost use Rattle.engine.specs.Calls.{lockOrder, beginTold};
-ghost use Rattle.engine.specs.State.{wordsOf, lockAt};
+ghost use Rattle.engine.specs.State.{wordsOf, lockAt, workerAt};
 ghost use Rattle.cells.specs.Layout.{numbers, unpack};
+use cells::worker::IDLE;
+use cells::worker::RELEASE;
+use cells::worker::TAG;
 use parts::Refusal;
 use parts::Told;
 use parts::WORDS;
@@ -71,6 +75,21 @@ fn lock_told(s: &[u32], lock: u32, rec: &[u8]) -> Told
     }
 }
 
+// Refusals 3 and 4: may worker w begin?
+fn worker_told(s: &[u32], w: usize) -> Told
+    requires { ⌜ (numbers ≤ length (now s)) × (w < workers) ⌝ }
+    ensures { λ r. ⌜ r ≡ beginByState (workerAt (unpack (now (s .entry))) w) ⌝ }
+{
+    let tag = cells::get_number(s, w, TAG);
+    if tag == IDLE {
+        return Told::Accepted;
+    }
+    if tag <= RELEASE {
+        return Told::Refused(Refusal::WorkerUnderWay);
+    }
+    Told::Refused(Refusal::NotCollected)
+}
+
 // Every refusal of begin, in its order.
 pub fn begin_told(s: &[u32], w: u32, lock: u32, rec: &[u8]) -> Told
     requires { ⌜ numbers ≤ length (now s) ⌝ }
@@ -80,8 +99,7 @@ pub fn begin_told(s: &[u32], w: u32, lock: u32, rec: &[u8]) -> Told
     if WORKERS <= i {
         return Told::Refused(Refusal::NoWorker);
     }
-    let k = cells::get_worker(s, i);
-    let told = k.begin_told();
+    let told = worker_told(s, i);
     match told {
         Told::Refused(_) => told,
         Told::Accepted => lock_told(s, lock, rec),

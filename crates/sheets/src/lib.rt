@@ -1,4 +1,4 @@
-// Which sheets are in use, by a table of marks, and the free one with the lowest number.
+// Which sheets are in use, by one number with a binary digit for each sheet, and the free one with the lowest number.
 ghost use Prim.Native.Nat.{_<_, _-_};
 ghost use mathlib.Core.Path.{_≡_};
 ghost use Rattle.parts.specs.Numbers.{sheets};
@@ -16,75 +16,84 @@ use steps::Worker;
 const LAST: usize = SHEETS - 1;
 
 // Marks sheet s; a number that is no sheet's marks nothing.
-fn mark(marks: &mut [bool; SHEETS], s: u8)
-    ensures { λ _. ⌜ now (marks .exit) ≡ sheetMarks (now (marks .entry)) s ⌝ }
+pub fn mark(marks: u32, s: u8) -> u32
+    ensures { λ r. ⌜ r ≡ sheetMarks marks s ⌝ }
 {
-    let i = s as usize;
-    if i < SHEETS {
-        marks[i] = true;
-        return;
+    if (s as usize) < SHEETS {
+        return marks | (1 << (s as u32));
     }
+    marks
+}
+
+// Is sheet s marked?
+pub fn marked(marks: u32, s: u8) -> bool
+    requires { ⌜ s < sheets ⌝ }
+    ensures { λ r. ⌜ r ≡ markedOf marks s ⌝ }
+{
+    (marks >> (s as u32)) & 1 == 1
 }
 
 // Marks the sheet that is named, if one is.
-pub fn mark_holder(marks: &mut [bool; SHEETS], h: Holder)
-    ensures { λ _. ⌜ now (marks .exit) ≡ holderMarks (now (marks .entry)) h ⌝ }
+pub fn mark_holder(marks: u32, h: Holder) -> u32
+    ensures { λ r. ⌜ r ≡ holderMarks marks h ⌝ }
 {
     match h {
-        Holder::Free => {}
+        Holder::Free => marks,
         Holder::By(s) => mark(marks, s),
     }
 }
 
 // Marks what a worker under way has: its own sheet, and the one that it helps.
-pub fn mark_worker(marks: &mut [bool; SHEETS], k: Worker)
-    ensures { λ _. ⌜ now (marks .exit) ≡ workerMarks (now (marks .entry)) k ⌝ }
+fn mark_worker(marks: u32, k: Worker) -> u32
+    ensures { λ r. ⌜ r ≡ workerMarks marks k ⌝ }
 {
     let s = k.state;
     match s {
-        State::Idle => {}
+        State::Idle => marks,
         State::UnderWay(p) => {
-            mark(marks, k.own);
+            let own = mark(marks, k.own);
             let helped = p.helped();
-            mark_holder(marks, helped);
+            mark_holder(own, helped)
         }
-        State::Finished(_) => {}
+        State::Finished(_) => marks,
     }
 }
 
 // Marks the sheets that the locks name.
-fn mark_locks(marks: &mut [bool; SHEETS], locks: [LockWord; LOCKS])
-    ensures { λ _. ⌜ now (marks .exit) ≡ allMark lockMarks (now (marks .entry)) locks ⌝ }
+fn mark_locks(marks: u32, locks: [LockWord; LOCKS]) -> u32
+    ensures { λ r. ⌜ r ≡ allMark lockMarks marks locks ⌝ }
 {
+    let mut m = marks;
     let mut j: usize = 0;
     while j < LOCKS {
         let l = locks[j];
         let held = l.holder;
-        mark_holder(marks, held);
+        m = mark_holder(m, held);
         j += 1;
     }
+    m
 }
 
 // Marks the sheets that the workers have.
-fn mark_workers(marks: &mut [bool; SHEETS], workers: [Worker; WORKERS])
-    ensures { λ _. ⌜ now (marks .exit) ≡ allMark workerMarks (now (marks .entry)) workers ⌝ }
+fn mark_workers(marks: u32, workers: [Worker; WORKERS]) -> u32
+    ensures { λ r. ⌜ r ≡ allMark workerMarks marks workers ⌝ }
 {
+    let mut m = marks;
     let mut j: usize = 0;
     while j < WORKERS {
         let k = workers[j];
-        mark_worker(marks, k);
+        m = mark_worker(m, k);
         j += 1;
     }
+    m
 }
 
-// The table: a sheet is marked where a lock names it or a worker has it.
-fn marks_of(locks: [LockWord; LOCKS], workers: [Worker; WORKERS]) -> [bool; SHEETS]
+// The marks: a sheet is marked where a lock names it or a worker has it.
+fn marks_of(locks: [LockWord; LOCKS], workers: [Worker; WORKERS]) -> u32
     ensures { λ r. ⌜ r ≡ marksOf locks workers ⌝ }
 {
-    let mut marks = [false; SHEETS];
-    mark_locks(&mut marks, locks);
-    mark_workers(&mut marks, workers);
-    marks
+    let named = mark_locks(0, locks);
+    mark_workers(named, workers)
 }
 
 // Is sheet s in use?
@@ -93,7 +102,7 @@ pub fn in_use(locks: [LockWord; LOCKS], workers: [Worker; WORKERS], s: usize) ->
     ensures { λ r. ⌜ r ≡ inUseOf locks workers s ⌝ }
 {
     let marks = marks_of(locks, workers);
-    marks[s]
+    marked(marks, s as u8)
 }
 
 // The free sheet with the lowest number, or the last where none is free.
@@ -105,13 +114,12 @@ pub fn free_sheet(locks: [LockWord; LOCKS], workers: [Worker; WORKERS]) -> u8
 }
 
 // The lowest that is not marked; the last, marked or not, where the others are.
-pub fn lowest_unmarked(marks: [bool; SHEETS]) -> u8
+pub fn lowest_unmarked(marks: u32) -> u8
     ensures { λ r. ⌜ r ≡ lowestOf (markedOf marks) 0 (sheets - 1) ⌝ }
 {
     let mut i: u8 = 0;
     while (i as usize) < LAST {
-        let at = i as usize;
-        let used = marks[at];
+        let used = marked(marks, i);
         if used {
             i += 1;
             continue;

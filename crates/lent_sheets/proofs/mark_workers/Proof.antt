@@ -13,11 +13,11 @@ use Rattle.lent_sheets.proofs.mark_workers.Statement.{statement}
 use Rattle.lent_sheets.proofs.mark_workers.Tie as tie
 
 abbrev Inv-loop : tie.InvT-loop
-Inv-loop s marks₀ j₀ marks j =
-    (j ≤ workers) × (allMark workerMarks marks₀ (unpack s .worker) ≡ allMark workerMarks marks (drop j (unpack s .worker)))
+Inv-loop s marks m₀ j₀ m j =
+    (j ≤ workers) × (allMark workerMarks marks (unpack s .worker) ≡ allMark workerMarks m (drop j (unpack s .worker)))
 
 abbrev μ-loop : tie.MeasureT-loop
-μ-loop s marks₀ j₀ marks j = workers - j
+μ-loop s marks m₀ j₀ m j = workers - j
 
 pub mark-workers-spec : {M : Type 1} → statement M
 mark-workers-spec =
@@ -27,12 +27,11 @@ mark-workers-spec =
     μ-loop
     (λ c. (search needs, refl))
     (λ c κs. search needs)
-    (λ c κs. search needs)
     (λ c. search needs)
     (λ c. search needs)
-    (λ c. let at = c .before .before .before .before in (
+    (λ c. let at = c .before .before in (
       omega arith,
       lent-turn _ _ _ _ workers (at .loop .j) (at .loop .inv .1) (unpack-whole _ .worker) _ _ _
-          (c .mark-worker .ensures) (c .before .before .get-worker .ensures) (search needs),
+          (c .mark-worker .ensures) refl (search needs),
     ))
     (λ c. lent-end _ _ _ _ workers (c .before .loop .j) (c .before .loop .inv .1) (unpack-whole _ .worker) (search needs)))

@@ -1,7 +1,7 @@
 -- The invariant: all numbers below i are used, so that the lowest from 0 on is the lowest from i on.
 use Prim.Native.Nat.{_≤_, _-_}
 use native.Mathlib.Omega.{arith}
-use mathlib.Core.Path.{_≡_, refl}
+use mathlib.Core.Path.{_≡_, refl, sym, _∙_}
 use borrow.Author.Needs.{needs}
 use Rattle.parts.specs.Numbers.{sheets}
 use Rattle.sheets.specs.Marks.{markedOf}
@@ -24,10 +24,13 @@ lowest-unmarked-spec =
     μ-loop
     (λ c. (search needs, refl))
     (λ c. search needs)
+    (λ c κs. search needs)
     (λ c. search needs)
     (λ c. search needs)
-    (λ c. search needs)
-    (λ c. search needs)
-    (λ c. (omega arith, lowest-turn _ _ _ _ (c .before .before .loop .inv .1) (search needs) (c .if1 .taken)))
-    (λ c. lowest-here _ _ _ _ (c .before .before .loop .inv .1) (search needs) (c .if1 .left))
+    (λ c.
+    let at = c .before .before .before in
+    (omega arith, lowest-turn _ _ _ _ (at .loop .inv .1) (search needs) (sym (c .before .marked .ensures) ∙ c .if1 .taken)))
+    (λ c.
+    let at = c .before .before .before in
+    lowest-here _ _ _ _ (at .loop .inv .1) (search needs) (sym (c .before .marked .ensures) ∙ c .if1 .left))
     (λ c. lowest-end _ _ _ _ (c .before .loop .inv .1) (search needs)))

@@ -10,15 +10,14 @@ begun-spec =
     tie.close
     (tie.spec
     (λ c κs. search needs)
-    (λ c κs. search needs)
-    (λ c κs. search needs)
     (λ c. search needs)
     (λ c. search needs)
+    (λ c κs. search needs)
     (λ c κs. search needs)
     (λ c κs. search needs)
     (λ c. search needs)
     (λ c.
-    let x = c .before .before .before .before .before .before in
+    let l = c .before .before .before in
+    let x = l .before .before .before .before in
     let b = x .before .before .before .before in
-    begun-by _ _ _ _ _ _ _ _ _ _ _ (b .before .before .before .get-worker .ensures) (b .before .before .begin .ensures) (b .copied .ensures)
-    refl (x .put-sheet .ensures) (c .before .before .put-worker .ensures)))
+    begun-by _ _ _ _ _ _ _ _ _ _ (search needs) (l .looking .ensures) (b .copied .ensures) refl (x .put-sheet .ensures) (c .before .before .put-worker .ensures)))

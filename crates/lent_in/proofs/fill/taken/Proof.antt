@@ -13,6 +13,6 @@ taken-spec =
     (λ c κs.
     let p = c .before .before .before .pre in
     let n = job-size _ _ _ (p .1 .job) in
-    (p .0, p .1 .worker, p .2, omega (arith, n), omega (arith, n)))
+    (p .0, p .1 .worker, p .2, omega (arith, n), omega (arith, n), p .1 .idle))
     (λ c. search needs)
     (λ c. search needs))
