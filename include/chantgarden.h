@@ -1,5 +1,5 @@
-/* The job engine, called from C: nine calls on a state that the caller lends as plain numbers, the writer of a call's record, and a
- * plain engine, which is lent words instead of a state. Link libchantgarden.a.
+/* The job engine, called from C: nine calls on a state that the caller lends as plain numbers, the writer of a call's record, a plain
+ * engine, which is lent words instead of a state, and the lookup and the writer of books of standard jobs. Link libchantgarden.a.
  *
  * Lending: a pointer is followed by how many numbers or bytes it points to; it is not NULL, and what two pointers of one call
  * point to does not overlap. No call keeps a pointer, allocates or blocks. Calls on one state are made one after the other, never
@@ -7,21 +7,23 @@
  * still read as some state, and never past the lent ones.
  *
  * Answers: number 0 says that the call was accepted. Any other number is a refusal of document 01, and place is its place there,
- * 0 where it tells none; but 17, which is request 01's, 16 of chant_plain and 22, the header's own, all with place 0. Which of several is told is
- * document 01's order, not that of the lists below.
+ * 0 where it tells none; but 17, which is request 01's, 18, 19 and 20, which are request 08's, 16 of chant_plain and 22, the header's
+ * own, all with place 0 but 18. Which of several is told is the documents' order, not that of the lists below.
  * A refusal changes not one number of the state, not one word and not one byte of the buffer (setup: the state becomes the blank one, except
- * under 22). A field that has nothing to tell is 0, so all of them after number and place where a call is refused.
+ * under 22). A field that has nothing to tell is 0, so all of them after number and place where a call is refused (but the book of 18).
  *
- *    1 worker above 7                        9 the lock is free with turn 67,108,864
- *    2 lock not below L                     10 is no longer told
- *    3 worker under way                     11 worker idle
- *    4 answer not collected                 12 L, W, a guard or a turn outside its range; park: blank state
- *    5 record length wrong                  13 lent buffer shorter than the record
- *    6 kind is none that this call takes    14 sheet above 31 or free
- *    7 instruction badly formed, or the     15 a lock is held
- *      last is no halt                      16 word not below W; chant_plain: see there
- *    8 a load, store or cam names a word    17 a record that makes no call: call above 3
- *      this lock doesn't guard, or no word  22 fewer numbers lent than CHANT_STATE_NUMBERS; told before any other
+ *    1 worker above 7                         11 worker idle
+ *    2 lock not below L                       12 L, W, a guard or a turn outside its range; park: blank state
+ *    3 worker under way                       13 lent buffer shorter than the record, or than the book
+ *    4 answer not collected                   14 sheet above 31 or free
+ *    5 record length wrong                    15 a lock is held
+ *    6 kind is none that this call takes      16 word not below W; chant_plain: see there
+ *    7 instruction badly formed, or the       17 a record that makes no call: call above 3
+ *      last is no halt                        18 book malformed; its place is the first byte of the first bad entry
+ *    8 a load, store or cam names a word      19 no job of this number there; so of every number above 65,535
+ *      this lock doesn't guard, or no word    20 a job of this number is in the book already
+ *    9 the lock is free with turn 67,108,864  22 fewer numbers lent than CHANT_STATE_NUMBERS; told before any other
+ *   10 is no longer told
  */
 #ifndef CHANTGARDEN_H
 #define CHANTGARDEN_H
@@ -39,10 +41,12 @@
 /* The numbers of a state. All 0 is the blank state: no locks, no words, idle workers, free sheets. */
 #define CHANT_STATE_NUMBERS 12868
 
-/* A buffer of so many bytes is long enough for every job record, for every setup record, for every call record. */
+/* A buffer of so many bytes is long enough for every job record, for every setup record, for every call record; and with so many more
+ * bytes than a book has, for that book and any new job. */
 #define CHANT_JOB_BYTES 260
 #define CHANT_SETUP_BYTES 390
 #define CHANT_CALL_BYTES 264
+#define CHANT_ENTRY_BYTES 266
 
 /* The call that a call record makes. */
 #define CHANT_BEGIN 0
@@ -56,6 +60,10 @@
 #define CHANT_NOT_TAKEN 3
 #define CHANT_WORN 4
 
+/* Which of two lent books. */
+#define CHANT_LINE_BOOK 1
+#define CHANT_FACTORY_BOOK 2
+
 #ifdef __cplusplus
 extern "C" {
 #endif
@@ -66,6 +74,7 @@ typedef struct { uint32_t number, place, value, count, guard; } chant_word;
 typedef struct { uint32_t number, place, turn, held, sheet; } chant_lock; /* held: 0 free, 1 held by sheet */
 typedef struct { uint32_t number, place, length; } chant_wrote;
 typedef struct { uint32_t number, place, answer, executed; } chant_ran;
+typedef struct { uint32_t number, place, book, offset, length; } chant_found;
 
 /* Makes a fresh state from a setup record (kind 2), whatever the numbers were; a refused one makes the blank state.
  * Refused 5, 6, 12. The place of 12 is the first byte of what is outside its range. */
@@ -125,6 +134,24 @@ CHANT_READ chant_wrote chant_record(uint32_t call, uint32_t worker, uint32_t loc
  * for 64 of them (x86-64). */
 CHANT_READ chant_ran chant_plain(uint32_t *values, size_t values_length, const uint8_t *guards, size_t guards_length, uint32_t lock,
                                  const uint8_t *record, size_t length);
+
+/* Books of standard jobs. An entry: two bytes its length, which is 6 and the job record's, two bytes kind 5, two bytes the job number
+ * (all of them the low byte first), then one whole job record. A book is entries end to end, whose numbers strictly rise; no bytes at
+ * all is a book without jobs. A book with any bad entry is malformed: of a wrong length or kind, of a number not above the one before
+ * it, or whose job record is refused 5, 6 or 7. What words a job names is looked at only when it begins. A book has less than 4 GB:
+ * places, offsets and lengths are told in 32 bits. */
+
+/* Looks a number up in two books, each checked whole first, the line book before the factory book. book tells which one has the job,
+ * CHANT_LINE_BOOK where both do, offset and length where its record stands there: straight in the lent book, for chant_begin to take.
+ * Refused 18 (book tells which book is malformed, the line book where both are), 19; then length is 0. */
+CHANT_READ chant_found chant_book_find(const uint8_t *line, size_t line_length, const uint8_t *factory, size_t factory_length,
+                                       uint32_t number);
+
+/* Writes a book with one new job, under this number and in its place, into the first bytes of the buffer; length tells how many. The
+ * bytes after them don't change, nor does the book. Refused 18, 19 (number above 65,535), 5, 6, 7 of the new job, 20, 13. The place of 7
+ * is the instruction's, from 0. */
+CHANT_READ chant_wrote chant_book_add(const uint8_t *book, size_t book_length, uint32_t number, const uint8_t *record,
+                                      size_t record_length, uint8_t *buffer, size_t length);
 
 #ifdef __cplusplus
 }

@@ -1,11 +1,13 @@
 //! The benchmark: nanoseconds a step, of the archive, of the second program
 //! and of the engine by value where that can be timed (build.rs), and
-//! nanoseconds a begin and a job of the plain engine, in one run; the stack of each exported function; the size of a state; instructions a
-//! call, beside the second program and a plain C engine, which is first held
-//! against the archive. It writes Markdown. It is no test: its figures vary
+//! nanoseconds a begin and a job of the plain engine and microseconds a lookup
+//! in a book, in one run; the stack of each exported function; the size of a
+//! state; instructions a call, beside the second program and a plain C engine,
+//! which is first held against the archive. It writes Markdown. It is no test: its figures vary
 //! with where and, but for the instructions, when it runs.
 
 mod begins;
+mod books;
 mod callers;
 mod callgrind;
 mod count;
@@ -22,7 +24,7 @@ use sides::{ByValue, InPlace, Lent, Side};
 use std::process::ExitCode;
 
 /// The calls of include/chantgarden.h.
-const CALLS: [&str; 11] = [
+const CALLS: [&str; 13] = [
     "chant_setup",
     "chant_begin",
     "chant_step",
@@ -34,6 +36,8 @@ const CALLS: [&str; 11] = [
     "chant_park",
     "chant_record",
     "chant_plain",
+    "chant_book_find",
+    "chant_book_add",
 ];
 /// Tries in one timed round, of all workers of all its engines.
 const TRIES: usize = 16;
@@ -223,7 +227,9 @@ fn write(archive: &str) -> Result<(), String> {
     workers_table();
     setups_table();
     begins::table();
-    plainly::table(&Game::new(1, 2, 1).job);
+    let job = Game::new(1, 2, 1).job;
+    plainly::table(&job);
+    books::table(&job);
     stack_table(archive)?;
     println!("\nA state: {NUMBERS} numbers, {} bytes.", 4 * NUMBERS);
     println!("\nThe plain C engine answered like the archive: {held}.");

@@ -1,10 +1,11 @@
 //! The archive's nine calls on numbers that the caller lends, its writer of a
-//! call's record and its plain engine, one function each, with the answers as
-//! include/chantgarden.h has them: number 0 says accepted, and a field that
-//! has nothing to tell is 0. [`Engine`] and [`Recorder`] are built on these.
-//! They are all safe, for any slices and numbers at all.
+//! call's record, its plain engine and its two calls on books, one function
+//! each, with the answers as include/chantgarden.h has them: number 0 says
+//! accepted, and a field that has nothing to tell is 0. [`Engine`],
+//! [`Recorder`] and [`book`] are built on these. They are all safe, for any
+//! slices and numbers at all.
 //!
-//! All that is unsafe in this package stands here: eleven calls of functions
+//! All that is unsafe in this package stands here: thirteen calls of functions
 //! that are declared by hand. That is sound, because
 //!
 //! - the declarations are the header's, name by name: a slice is a pointer
@@ -16,6 +17,7 @@
 //! - a slice lent as `&mut` overlaps no other, by Rust's own rules, and one
 //!   lent as `&` is only read.
 //!
+//! [`book`]: crate::book
 //! [`Engine`]: crate::Engine
 //! [`Recorder`]: crate::Recorder
 
@@ -95,6 +97,18 @@ pub struct Plain {
     pub executed: u32,
 }
 
+/// The header's `chant_found`.
+#[must_use]
+#[repr(C)]
+#[derive(Clone, Copy, PartialEq, Eq, Debug, Default)]
+pub struct Found {
+    pub number: u32,
+    pub place: u32,
+    pub book: u32,
+    pub offset: u32,
+    pub length: u32,
+}
+
 #[rustfmt::skip]
 extern "C" {
     fn chant_setup(state: *mut u32, numbers: usize, record: *const u8, length: usize) -> Reply;
@@ -108,6 +122,8 @@ extern "C" {
     fn chant_park(state: *const u32, numbers: usize, buffer: *mut u8, length: usize) -> Wrote;
     fn chant_record(call: u32, worker: u32, lock: u32, record: *const u8, length: usize, buffer: *mut u8, room: usize) -> Wrote;
     fn chant_plain(values: *mut u32, values_length: usize, guards: *const u8, guards_length: usize, lock: u32, record: *const u8, length: usize) -> Plain;
+    fn chant_book_find(line: *const u8, line_length: usize, factory: *const u8, factory_length: usize, number: u32) -> Found;
+    fn chant_book_add(book: *const u8, book_length: usize, number: u32, record: *const u8, record_length: usize, buffer: *mut u8, length: usize) -> Wrote;
 }
 
 /// A fresh state from a setup record; a refused one gives the blank state.
@@ -200,6 +216,29 @@ pub fn plain(values: &mut [u32], guards: &[u8], lock: u32, record: &[u8]) -> Pla
     unsafe {
         chant_plain(
             values, lengths[0], guards, lengths[1], lock, record, lengths[2],
+        )
+    }
+}
+
+/// Looks a number up in a line book and a factory book.
+#[inline]
+pub fn book_find(line: &[u8], factory: &[u8], number: u32) -> Found {
+    let lengths = [line.len(), factory.len()];
+    let (line, factory) = (line.as_ptr(), factory.as_ptr());
+    // SAFETY: two slices that are only read, as the module's text says.
+    unsafe { chant_book_find(line, lengths[0], factory, lengths[1], number) }
+}
+
+/// Writes a book with one new numbered job into the first bytes.
+#[inline]
+pub fn book_add(book: &[u8], number: u32, record: &[u8], buffer: &mut [u8]) -> Wrote {
+    let lengths = [book.len(), record.len(), buffer.len()];
+    let (book, record, buffer) = (book.as_ptr(), record.as_ptr(), buffer.as_mut_ptr());
+    // SAFETY: three slices, of which the one that is written overlaps no
+    // other, as the module's text says.
+    unsafe {
+        chant_book_add(
+            book, lengths[0], number, record, lengths[1], buffer, lengths[2],
         )
     }
 }

@@ -17,8 +17,8 @@
 //! ```
 //!
 //! A [`Recorder`] makes the same calls and hands out a record of each, from
-//! which they can be made again. No answer is dropped unread without a
-//! warning of the compiler:
+//! which they can be made again. Numbered jobs stand in books ([`book`]). No
+//! answer is dropped unread without a warning of the compiler:
 //!
 //! ```compile_fail
 //! #![deny(unused_must_use)]
@@ -27,6 +27,7 @@
 #![deny(unsafe_code)]
 #![warn(missing_docs)]
 
+pub mod book;
 #[allow(unsafe_code, missing_docs)]
 pub mod lent;
 mod record;
@@ -61,11 +62,14 @@ impl Refusal {
             9 => "the lock is free with turn 67,108,864",
             11 => "worker idle",
             12 => "L, W, a guard or a turn outside its range, or blank state",
-            13 => "lent buffer shorter than the record",
+            13 => "lent buffer shorter than the record, or than the book",
             14 => "sheet above 31 or free",
             15 => "a lock is held",
             16 => "word not below W",
             17 => "a record that makes no call",
+            18 => "book malformed",
+            19 => "number not there",
+            20 => "number present already",
             22 => "fewer numbers lent than a state has",
             _ => "a refusal that this text doesn't know",
         }

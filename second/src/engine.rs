@@ -10,7 +10,8 @@ use std::ops::Range;
 pub type Instruction = [u8; 4];
 
 /// A refusal: its number in the table, or the 17 of a call record that
-/// request 01 adds; and its place.
+/// request 01 adds, or the 18, 19 and 20 of books that request 08 adds; and
+/// its place.
 #[derive(Clone, Copy, PartialEq, Eq, Debug)]
 pub struct Refusal {
     pub number: u32,

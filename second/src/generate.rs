@@ -8,6 +8,7 @@ use crate::job;
 use crate::script::{self, Call, LONGEST_BYTES, LONGEST_SCRIPT};
 use std::collections::VecDeque;
 
+pub mod books;
 pub mod files;
 pub mod plain;
 

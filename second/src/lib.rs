@@ -3,6 +3,7 @@
 //! held against.
 
 pub mod alone;
+pub mod book;
 pub mod check;
 pub mod compare;
 pub mod engine;

@@ -1,6 +1,6 @@
 -- What each of the nine calls tells and leaves, of any numbers that a caller lends: what the contracts of the C interface say, and what
--- the promises of a history of such calls (carried) are about. Last, the writer of a call's record
--- and the plain engine, which are lent no numbers of a state.
+-- the promises of a history of such calls (carried) are about. Last, the writer of a call's record,
+-- the plain engine and the book's search and writer, which are lent no numbers of a state.
 mod Names
 use Names.*
 use Rattle.cells.specs.Layout.{unpack}
@@ -10,7 +10,9 @@ use Rattle.lent_step.specs.Points.{stepNumbers}
 use Rattle.lent_in.specs.Calls.{setupNumbers, beginNumbers}
 use Rattle.calls.specs.Record.{recordedOf, recordedIn}
 use Rattle.plain.specs.Plain.{plainOf, plainLeft}
-use Rattle.door.specs.Door.{unlessShort, shortReply, toldFields, noAnswer, collectedFields, noWord, wordFields, noLock, lockFields, noBytes, wroteFields, plainFields}
+use Rattle.book.specs.Add.{addOf, addLeft}
+use Rattle.book.specs.Book.{findOf}
+use Rattle.door.specs.Door.{unlessShort, shortReply, toldFields, noAnswer, collectedFields, noWord, wordFields, noLock, lockFields, noBytes, wroteFields, plainFields, foundFields, addedFields}
 
 abbrev pub setupReply : List ℕ → List ℕ → Reply
 setupReply s rec = unlessShort s shortReply (toldFields (setupOf rec .told))
@@ -72,3 +74,12 @@ plainReply values guards l rec = plainFields (plainOf values guards l rec)
 
 abbrev pub plainValues : List ℕ → List ℕ → ℕ → List ℕ → List ℕ
 plainValues values guards l rec = plainLeft values guards l rec
+
+abbrev pub bookFindReply : List ℕ → List ℕ → ℕ → BookFound
+bookFindReply line factory number = foundFields (findOf line factory number)
+
+abbrev pub bookAddReply : List ℕ → ℕ → List ℕ → List ℕ → Wrote
+bookAddReply book number rec buf = addedFields (addOf book number rec (length buf))
+
+abbrev pub bookAddBuffer : List ℕ → ℕ → List ℕ → List ℕ → List ℕ
+bookAddBuffer book number rec buf = addLeft book number rec buf

@@ -65,3 +65,19 @@ noRun r = record { number = r .number; place = r .place; answer = 0; executed = 
 abbrev pub plainFields : PlainTold → Plain
 plainFields (PlainTold.Ran said n) = record { number = 0; place = 0; answer = pick said (answerNumber RanYes) (answerNumber RanNo); executed = n % 2 ^ 32 }
 plainFields (PlainTold.Refused r) = noRun (refusalReply r)
+
+-- request 08: which book, and where the job record stands there, in 32 bits; a refused search tells 0 and 0, and of 18 which book
+abbrev pub foundFields : Found → BookFound
+foundFields f =
+    record {
+      number = toldFields (f .told) .number;
+      place = toldFields (f .told) .place;
+      book = f .book;
+      offset = f .from % 2 ^ 32;
+      length = f .length % 2 ^ 32;
+    }
+
+-- how many bytes were written, in 32 bits
+abbrev pub addedFields : Added → Wrote
+addedFields a =
+    record { number = toldFields (a .told) .number; place = toldFields (a .told) .place; length = a .length % 2 ^ 32 }

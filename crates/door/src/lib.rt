@@ -1,11 +1,11 @@
-// What C can call: the nine calls on numbers that the caller lends, the writer of a call's record, and the plain engine, which is lent
-// the words. A reply's number 0 says accepted; any other is a refusal's, with its place. Fewer numbers than a state takes: 22, and nothing is changed.
+// What C can call: the nine calls on numbers that the caller lends, the writer of a call's record, the plain engine, which is lent
+// the words, and the search and the writer of books of jobs. A reply's number 0 says accepted; any other is a refusal's, with its place. Fewer numbers than a state takes: 22, and nothing is changed.
 ghost use mathlib.Core.Path.{_≡_};
 ghost use Prim.Native.Nat.{_≤_};
 ghost use lib.ListN.{length};
 ghost use Rattle.engine.specs.Calls.{setupOf, beginOf, stepOf, collectOf, dropOf};
 ghost use Rattle.cells.specs.Layout.{numbers, unpack};
-ghost use Rattle.door.specs.Calls.{setupReply, setupLeft, beginReply, beginLeft, stepReply, stepLeft, collectReply, collectLeft, dropReply, dropLeft, wordReply, lockReply, showReply, showBuffer, parkReply, parkBuffer, recordReply, recordBuffer, plainReply, plainValues};
+ghost use Rattle.door.specs.Calls.{setupReply, setupLeft, beginReply, beginLeft, stepReply, stepLeft, collectReply, collectLeft, dropReply, dropLeft, wordReply, lockReply, showReply, showBuffer, parkReply, parkBuffer, recordReply, recordBuffer, plainReply, plainValues, bookFindReply, bookAddReply, bookAddBuffer};
 
 mod replies;
 
@@ -48,6 +48,15 @@ pub struct LockRead {
 pub struct Wrote {
     pub number: u32,
     pub place: u32,
+    pub length: u32,
+}
+
+#[repr(C)]
+pub struct BookFound {
+    pub number: u32,
+    pub place: u32,
+    pub book: u32,
+    pub offset: u32,
     pub length: u32,
 }
 
@@ -204,4 +213,23 @@ pub extern "C" fn chant_plain(values: &mut [u32], guards: &[u8], lock: u32, rec:
 {
     let told = plain::run(values, guards, lock, rec);
     replies::ran(told)
+}
+
+// Where the job record of a number stands in the line book, or else in the factory book. Refused: 18, 19.
+#[no_mangle]
+pub extern "C" fn chant_book_find(line: &[u8], factory: &[u8], number: u32) -> BookFound
+    ensures { λ r. ⌜ r ≡ bookFindReply (now (line .entry)) (now (factory .entry)) number ⌝ }
+{
+    let found = book::find(line, factory, number);
+    replies::found(found)
+}
+
+// A book with one job more, in its place. Refused: 18, 19, 5, 6, 5, 7, 20, 13.
+#[no_mangle]
+pub extern "C" fn chant_book_add(book: &[u8], number: u32, rec: &[u8], buffer: &mut [u8]) -> Wrote
+    ensures { λ r. ⌜ r ≡ bookAddReply (now (book .entry)) number (now (rec .entry)) (now (buffer .entry)) ⌝ }
+    ensures { λ _. ⌜ now (buffer .exit) ≡ bookAddBuffer (now (book .entry)) number (now (rec .entry)) (now (buffer .entry)) ⌝ }
+{
+    let added = book::add(book, number, rec, buffer);
+    replies::added(added)
 }

@@ -3,13 +3,16 @@ ghost use mathlib.Core.Path.{_≡_};
 ghost use Rattle.parts.specs.Pick.{pick};
 ghost use Rattle.parts.specs.Told.{answerNumber};
 ghost use Rattle.parts.specs.declared.Answer.the-variants.{RanYes, RanNo};
-ghost use Rattle.door.specs.Door.{shortReply, refusalReply, toldFields, noAnswer, collectedFields, noWord, wordFields, noLock, lockWordFields, lockFields, noBytes, wroteFields, noRun, plainFields};
+ghost use Rattle.door.specs.Door.{shortReply, refusalReply, toldFields, noAnswer, collectedFields, noWord, wordFields, noLock, lockWordFields, lockFields, noBytes, wroteFields, noRun, plainFields, foundFields, addedFields};
+use crate::BookFound;
 use crate::Collected;
 use crate::LockRead;
 use crate::Plain;
 use crate::Reply;
 use crate::WordRead;
 use crate::Wrote;
+use book::Added;
+use book::Found;
 use engine::CollectTold;
 use engine::LockTold;
 use engine::WordTold;
@@ -206,5 +209,31 @@ pub fn ran(told: PlainTold) -> Plain
             executed: (n % 4294967296) as u32,
         },
         PlainTold::Refused(r) => no_run(refusal_reply(r)),
+    }
+}
+
+pub fn found(f: Found) -> BookFound
+    ensures { λ r. ⌜ r ≡ foundFields f ⌝ }
+{
+    let told = f.told;
+    let r = reply(told);
+    BookFound {
+        number: r.number,
+        place: r.place,
+        book: f.book,
+        offset: (f.from % 4294967296) as u32,
+        length: (f.length % 4294967296) as u32,
+    }
+}
+
+pub fn added(a: Added) -> Wrote
+    ensures { λ r. ⌜ r ≡ addedFields a ⌝ }
+{
+    let told = a.told;
+    let r = reply(told);
+    Wrote {
+        number: r.number,
+        place: r.place,
+        length: (a.length % 4294967296) as u32,
     }
 }

@@ -2,7 +2,7 @@
 use Prim.Native.Nat.{ℕ, _-_, _/_, _≤_, _<_}
 use mathlib.Core.Bool.{false}
 use mathlib.Core.List.{List}
-use mathlib.Core.Path.{_≡_, refl, _∙_, sym, ap}
+use mathlib.Core.Path.{_≡_, _∙_, sym, ap}
 use native.Mathlib.Omega.{arith}
 use lib.ListN.{length, take, drop, replicate, length-drop}
 use Rattle.parts.specs.Numbers.{workers, sheets, instructions}
@@ -15,12 +15,10 @@ use Rattle.records.specs.Job.{instrsOf, jobOf}
 use Rattle.records.proofs.Fours.{instrs-length}
 use Rattle.records.proofs.Laws.{part-end}
 use Rattle.steps.specs.Worker as steps
-use Rattle.steps.specs.Worker.{onState, lookingOf, beganOf}
-use Rattle.steps.specs.declared.State.{State}
-use Rattle.steps.specs.declared.State.the-variants.{Idle, UnderWay, Finished}
+use Rattle.steps.specs.Worker.{lookingOf, beganOf}
 use Rattle.steps.specs.declared.Worker.{Worker}
 use Rattle.engine.specs.Calls.{beginTold, begunOf, beginOf}
-use Rattle.engine.proofs.Begins.{sheet-taken}
+use Rattle.engine.proofs.Begins.{sheet-taken, looks}
 use Rattle.engine.specs.State.{workerAt, freeSheet, baseOf, withWorker}
 use Rattle.cells.specs.Codes.{atTag, idleTag, releaseTag}
 use Rattle.cells.specs.Layout.{instrPart, entryPart, unpack, numberAt, putSheet, putWorker}
@@ -42,18 +40,6 @@ copied-by s t u v rec sheet a b c = (
   c .0 ∙ simp (b .0, a .0, part-end 4 rec),
   c .1 ∙ simp (b .1, a .1, part-end 4 rec),
 )
-
--- an idle worker that begins is to look at its lock
-pub began-is : (k : Worker) (l sheet : ℕ) → steps.beginByState k ≡ Accepted → beganOf k l sheet ≡ lookingOf l sheet
-unfolding beganOf steps.beginByState
-began-is k l sheet h = go (k .state) h
-  where
-    go :
-        (q : State) → onState q Accepted (λ p. Refused WorkerUnderWay) (λ x. Refused NotCollected) ≡ Accepted →
-        onState q (lookingOf l sheet) (λ p. k) (λ x. k) ≡ lookingOf l sheet
-    go Idle e = refl
-    go (UnderWay p) e = let z : _≡_ {A = ℕ} 0 1 = cc in absurd (omega arith)
-    go (Finished x) e = let z : _≡_ {A = ℕ} 0 1 = cc in absurd (omega arith)
 
 -- may it begin? by its tag
 module _ (s : List ℕ) (w : ℕ) (b : w < workers) (tag : ℕ) (e : tag ≡ numberAt s w atTag) where
@@ -83,7 +69,7 @@ pub begun-by :
 unfolding begunNumbers begunOf copiedOf
 begun-by s t u v rec w l sheet n next i b c m x y =
     let j : length (jobOf rec) ≡ n = instrs-length (drop 4 rec) ∙ ap (λ (i : ℕ). i / 4) (length-drop 4 rec) ∙ sym m in
-    let k : next ≡ beganOf (workerAt (unpack s) w) l sheet = b ∙ sym (began-is (workerAt (unpack s) w) l sheet i) in (
+    let k : next ≡ beganOf (workerAt (unpack s) w) l sheet = b ∙ sym (looks (workerAt (unpack s) w) l sheet i) in (
       y .0 ∙ simp (x .0, c .0, k, j),
       y .1 ∙ simp (x .1, c .1, k, j),
     )

@@ -23,7 +23,7 @@ use Rattle.engine.specs.Calls.{outcomeOf, freshOf, setupOf, beginTold, begunOf,
 use Rattle.engine.specs.Inner.{Begins}
 use Rattle.engine.specs.State.{blankOf, workerAt, freeSheet, baseOf, withWorker}
 use Rattle.engine.specs.declared.Engine.{Engine}
-use Rattle.engine.proofs.Begins.{begins, job-size, sheet-taken}
+use Rattle.engine.proofs.Begins.{begins, job-size, sheet-taken, looks}
 use Rattle.cells.specs.Layout.{numbers, workerPart, lockPart, wordPart, sheetPart, instrPart, entryPart, unpack, putSizes, putSheet, blanked}
 use Rattle.cells.specs.Pieces.{Part, putPiece}
 use Rattle.cells.specs.State.{withSheet}
@@ -32,7 +32,6 @@ use Rattle.cells.proofs.Pieces.{length-put}
 use Rattle.cells.proofs.Unpack.{Says, Puts, unpack-worker, unpack-lock, unpack-word, unpack-sheet, unpack-instr, unpack-entry, unpack-sizes, unpack-blanked, length-sizes, length-blanked}
 use Rattle.lent_in.specs.Calls.{filledNumbers, filledOf, setupNumbers, copiedNumbers, copiedOf, sheetFor, begunNumbers, beginNumbers}
 use Rattle.lent_in.specs.Laid.{putAll, layWords, layLocks, layProgram, layLog}
-use Rattle.lent_in.proofs.Begins.{began-is}
 use Rattle.lent_in.proofs.Filled.{fresh-is}
 use Rattle.lent_in.proofs.Loops.{Lays, lays-words, lays-locks, lays-program, lays-log}
 
@@ -162,7 +161,7 @@ begun-says s w l rec h bytes b =
     let u = putSheet t sheet (sheetFor rec) in
     let q : length u ≡ length t = length-put sheetPart t sheet (sheetFor rec) in
     let k = beganOf (workerAt (unpack s) w) l sheet in
-    let is : k ≡ lookingOf l sheet = began-is (workerAt (unpack s) w) l sheet (b .idle) in
+    let is : k ≡ lookingOf l sheet = looks (workerAt (unpack s) w) l sheet (b .idle) in
     let back : workerPart .reading (workerPart .writing k) ≡ k =
     subst (λ (j : Worker). workerPart .reading (workerPart .writing j) ≡ j) (sym is)
     (worker-back (lookingOf l sheet) (record { lock = omega (arith, b .lock); own = omega (arith, sheet-taken (unpack s)) }) tt) in

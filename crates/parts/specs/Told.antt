@@ -30,6 +30,10 @@ refusalNumber (Held l) = 15
 refusalNumber NoWord = 16
 -- request 01: a record that makes no call
 refusalNumber CallRecord = 17
+-- request 08: "18 book malformed", "19 number not there", "20 number present already"
+refusalNumber (Malformed at) = 18
+refusalNumber NotThere = 19
+refusalNumber Present = 20
 
 -- the table's "place"
 unfoldable pub refusalPlace : Refusal → ℕ
@@ -49,6 +53,9 @@ refusalPlace SheetFree = 0
 refusalPlace (Held l) = l
 refusalPlace NoWord = 0
 refusalPlace CallRecord = 0
+refusalPlace (Malformed at) = at
+refusalPlace NotThere = 0
+refusalPlace Present = 0
 
 -- of what a call told: where it was accepted; where it was refused
 abbrev pub onTold : {A : Type 0} → Told → A → (Refusal → A) → A

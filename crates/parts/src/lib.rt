@@ -50,6 +50,9 @@ pub enum Refusal {
     Held(usize),
     NoWord,
     CallRecord,
+    Malformed(usize),
+    NotThere,
+    Present,
 }
 
 // What a call tells that has no more to tell than whether it was accepted.
@@ -152,6 +155,9 @@ impl Refusal {
             Refusal::Held(_) => 15,
             Refusal::NoWord => 16,
             Refusal::CallRecord => 17,
+            Refusal::Malformed(_) => 18,
+            Refusal::NotThere => 19,
+            Refusal::Present => 20,
         }
     }
 
@@ -175,6 +181,9 @@ impl Refusal {
             Refusal::Held(lock) => lock,
             Refusal::NoWord => 0,
             Refusal::CallRecord => 0,
+            Refusal::Malformed(at) => at,
+            Refusal::NotThere => 0,
+            Refusal::Present => 0,
         }
     }
 }

@@ -11,26 +11,19 @@ use lib.Seq.{getD-set-other, length-take-le, getD-set-same}
 use Rattle.parts.specs.Lay.{lay}
 use Rattle.parts.specs.Numbers.{sheets, instructions}
 use Rattle.parts.specs.Parts.{instr0}
-use Rattle.parts.specs.declared.Told.the-variants.{Accepted, Refused}
 use Rattle.parts.proofs.Order.{below-or-not}
 use Rattle.records.specs.Job.{jobOf}
 use Rattle.steps.specs.declared.View.{View}
 use Rattle.engine.specs.State.{sheet0, freeSheet, baseOf, programLength, programOf}
 use Rattle.engine.specs.Step.{putAt}
-use Rattle.engine.specs.Calls.{begunOf, beginTold}
+use Rattle.engine.specs.Calls.{begunOf}
 use Rattle.engine.specs.Inner.{Begins}
 use Rattle.engine.specs.declared.Engine.{Engine}
 use Rattle.engine.specs.declared.Places.{Places}
 use Rattle.engine.specs.declared.Sheet.{Sheet}
 use Rattle.ranges.proofs.Laid.{part-lay, set-same, lay-there}
 use Rattle.engine.proofs.Begins.{job-size, sheet-taken}
-use Rattle.parts.specs.declared.Refusal.the-variants.{WorkerUnderWay, NotCollected}
 use Rattle.parts.proofs.Lay.{length-lay}
-use Rattle.steps.specs.Worker as steps
-use Rattle.steps.specs.Worker.{onState, lookingOf, beganOf}
-use Rattle.steps.specs.declared.State.{State}
-use Rattle.steps.specs.declared.State.the-variants.{Idle, UnderWay, Finished}
-use Rattle.steps.specs.declared.Worker.{Worker}
 use Rattle.ranges.specs.Good.{Good}
 
 -- the length of a sheet's program
@@ -72,18 +65,6 @@ unfolding putAt
 put-program e at v s =
     ap (λ (n : ℕ). take (n % (instructions + 1)) (drop (baseOf s) (e .program)))
     (set-same (λ (x : Sheet). x .length) (e .sheet) (at .sheet) _ sheet0 refl s)
-
--- a worker that begins was idle, and is then to look at its lock with its own sheet
-pub looks : (k : Worker) (l s : ℕ) → steps.beginByState k ≡ Accepted → beganOf k l s ≡ lookingOf l s
-unfolding steps.beginByState beganOf
-looks k l s h = go (k .state) h
-  where
-    go :
-        (t : State) → onState t Accepted (λ p. Refused WorkerUnderWay) (λ x. Refused NotCollected) ≡ Accepted →
-        onState t (lookingOf l s) (λ p. k) (λ x. k) ≡ lookingOf l s
-    go Idle q = refl
-    go (UnderWay p) q = let z : _≡_ {A = ℕ} 0 1 = cc in absurd (omega arith)
-    go (Finished x) q = let z : _≡_ {A = ℕ} 0 1 = cc in absurd (omega arith)
 
 -- the sheet that an accepted begin takes has the record's job
 pub begun-job :

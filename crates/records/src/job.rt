@@ -116,7 +116,7 @@ fn ends_otherwise(i: Instr, left: usize) -> bool
 }
 
 // "Instruction badly formed, or the last is no halt."
-fn faulty(i: Instr, left: usize) -> bool
+pub fn faulty(i: Instr, left: usize) -> bool
     ensures { λ r. ⌜ r ≡ (badlyFormed i left or endsOtherwise i left) ⌝ }
 {
     if badly_formed(i, left) {

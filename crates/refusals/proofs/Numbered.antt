@@ -1,5 +1,5 @@
 -- A refusal's number and place tell it, and an answer's number the answer: no two have the same. The numbers are document 01's,
--- from 1 to 16 without 10, which request 06 removed, and request 01's 17.
+-- from 1 to 16 without 10, which request 06 removed, request 01's 17 and request 08's 18 to 20.
 use Prim.Native.Nat.{ℕ, _≤_}
 use mathlib.Core.Path.{_≡_, refl, _∙_, sym, ap}
 use mathlib.Core.Logic.{_↔_, _≢_}
@@ -12,7 +12,7 @@ use Rattle.parts.specs.declared.Answer.the-variants.{RanYes, RanNo, NotTaken, W
 use Rattle.parts.specs.declared.Refusal.{Refusal}
 use Rattle.parts.specs.declared.Told.{Told}
 use Rattle.parts.specs.declared.Told.the-variants.{Accepted, Refused}
-use Rattle.parts.specs.declared.Refusal.the-variants.{NoWorker, NoLock, WorkerUnderWay, NotCollected, Length, Kind, Instruction, Guard, LastTurn, WorkerIdle, Range, Buffer, SheetFree, Held, NoWord, CallRecord}
+use Rattle.parts.specs.declared.Refusal.the-variants.{NoWorker, NoLock, WorkerUnderWay, NotCollected, Length, Kind, Instruction, Guard, LastTurn, WorkerIdle, Range, Buffer, SheetFree, Held, NoWord, CallRecord, Malformed, NotThere, Present}
 use Rattle.refusals.specs.Orders.{Refuses}
 
 -- the refusal of a number and a place, and the answer of a number
@@ -33,7 +33,10 @@ refusalAt n p =
     (pick (eqb n 14) SheetFree
     (pick (eqb n 15) (Held p)
     (pick (eqb n 16) NoWord
-    CallRecord))))))))))))))
+    (pick (eqb n 17) CallRecord
+    (pick (eqb n 18) (Malformed p)
+    (pick (eqb n 19) NotThere
+    Present)))))))))))))))))
 
 unfoldable answerAt : ℕ → Answer
 answerAt n = pick (eqb n 1) RanYes (pick (eqb n 2) RanNo (pick (eqb n 3) NotTaken Worn))
@@ -56,6 +59,9 @@ refusal-back SheetFree = refl
 refusal-back (Held p) = refl
 refusal-back NoWord = refl
 refusal-back CallRecord = refl
+refusal-back (Malformed p) = refl
+refusal-back NotThere = refl
+refusal-back Present = refl
 
 answer-back : (a : Answer) → answerAt (answerNumber a) ≡ a
 unfolding answerAt answerNumber
@@ -72,8 +78,8 @@ number-one r s h k = sym (refusal-back r) ∙ rw (h, k) (refusal-back s)
 pub answer-one : (a b : Answer) → answerNumber a ≡ answerNumber b → a ≡ b
 answer-one a b h = sym (answer-back a) ∙ rw h (answer-back b)
 
--- "No." goes from 1 to 16, request 01 adds 17, and 10 is none's since request 06
-pub number-range : (r : Refusal) → (1 ≤ refusalNumber r) × (refusalNumber r ≤ 17) × (refusalNumber r ≢ 10)
+-- "No." goes from 1 to 16, request 01 adds 17 and request 08 18 to 20, and 10 is none's since request 06
+pub number-range : (r : Refusal) → (1 ≤ refusalNumber r) × (refusalNumber r ≤ 20) × (refusalNumber r ≢ 10)
 unfolding refusalNumber
 number-range NoWorker = (omega arith, omega arith, λ h. omega arith)
 number-range NoLock = (omega arith, omega arith, λ h. omega arith)
@@ -91,6 +97,9 @@ number-range SheetFree = (omega arith, omega arith, λ h. omega arith)
 number-range (Held p) = (omega arith, omega arith, λ h. omega arith)
 number-range NoWord = (omega arith, omega arith, λ h. omega arith)
 number-range CallRecord = (omega arith, omega arith, λ h. omega arith)
+number-range (Malformed p) = (omega arith, omega arith, λ h. omega arith)
+number-range NotThere = (omega arith, omega arith, λ h. omega arith)
+number-range Present = (omega arith, omega arith, λ h. omega arith)
 
 -- a call is refused with a refusal's number and place exactly when it is refused with it
 pub by-number :

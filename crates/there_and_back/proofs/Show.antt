@@ -29,8 +29,8 @@ use Rattle.ranges.specs.Good.{Good}
 use Rattle.ranges.proofs.Free.{begins-free}
 use Rattle.ranges.proofs.Keep.{good-begin}
 use Rattle.ranges.proofs.Laid.{lay-first}
-use Rattle.engine.proofs.Begins.{begins, sheet-taken}
-use Rattle.ranges.proofs.Programs.{program-length, looks, begun-job}
+use Rattle.engine.proofs.Begins.{begins, sheet-taken, looks}
+use Rattle.ranges.proofs.Programs.{program-length, begun-job}
 
 -- a call that tells it was accepted was, and gave the next state
 pub accepted :

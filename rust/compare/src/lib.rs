@@ -2,8 +2,10 @@
 //! second program's, the archive's, and a third one where it is given. Every
 //! answer, refusal, place, word, lock and buffer is equal, and so is every
 //! call's record, as the second program and the archive write it. Their plain
-//! engines are held against each other by themselves.
+//! engines and their books of standard jobs are held against each other by
+//! themselves.
 
+pub mod books;
 mod edges;
 mod pair;
 pub mod plain;
@@ -15,7 +17,8 @@ use second::generate::{Generator, Kind, Random};
 use second::script::Call;
 pub use told::{Archive, Calls, Second, Told};
 
-/// How far it has come is told after so many calls or runs, and so many more.
+/// How far it has come is told after so many calls, runs or cases, and so many
+/// more.
 const PROGRESS: u64 = 10_000_000;
 
 /// The calls at the edges, then random ones, history after history, until

@@ -2,6 +2,7 @@
 pub use Prim.Native.Nat.{ℕ}
 pub use mathlib.Core.List.{List}
 pub use lib.ListN.{length}
+pub use Rattle.door.specs.declared.BookFound.{BookFound}
 pub use Rattle.door.specs.declared.Collected.{Collected}
 pub use Rattle.door.specs.declared.LockRead.{LockRead}
 pub use Rattle.door.specs.declared.Plain.{Plain}

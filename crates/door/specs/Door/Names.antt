@@ -11,6 +11,9 @@ pub use Rattle.engine.specs.declared.CollectTold.{CollectTold}
 pub use Rattle.engine.specs.declared.LockTold.{LockTold}
 pub use Rattle.engine.specs.declared.WordTold.{WordTold}
 pub use Rattle.engine.specs.declared.WriteTold.{WriteTold}
+pub use Rattle.book.specs.declared.Added.{Added}
+pub use Rattle.book.specs.declared.Found.{Found}
+pub use Rattle.door.specs.declared.BookFound.{BookFound}
 pub use Rattle.door.specs.declared.Collected.{Collected}
 pub use Rattle.door.specs.declared.LockRead.{LockRead}
 pub use Rattle.plain.specs.declared.PlainTold.{PlainTold}

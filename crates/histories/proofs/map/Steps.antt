@@ -33,7 +33,7 @@ use Rattle.engine.specs.Calls as engine
 use Rattle.engine.specs.Calls.{takenOf}
 use Rattle.engine.specs.Inner.{Begins}
 use Rattle.engine.specs.declared.Engine.{Engine}
-use Rattle.engine.proofs.Begins.{sheet-taken}
+use Rattle.engine.proofs.Begins.{sheet-taken, looks}
 use Rattle.engine.specs.declared.Places.{Places}
 use Rattle.engine.specs.declared.Sheet.{Sheet}
 use Rattle.helping.specs.Ideal.{Logs, Touches}
@@ -41,7 +41,7 @@ use Rattle.helping.specs.Machine as machine
 use Rattle.helping.specs.Machine.{Rules, Scene, Shared, Pace, put, actOf, target, heldOf, machineOnto, sharedOf, setShared, setLock, machineMoved, onTo, lookTo, pointOf, paceOf, stepAt, machineBegun, idledOf}
 use Rattle.helping.specs.Ok.{Ranged}
 use Rattle.ranges.specs.Good.{Good}
-use Rattle.ranges.proofs.Programs.{begun-program, looks, begun-job}
+use Rattle.ranges.proofs.Programs.{begun-program, begun-job}
 use Rattle.histories.proofs.map.Map.{handOf, sceneOf, Under}
 use Rattle.histories.proofs.map.Moves.{moved-is, onto-is, look-is, grab-is, mark-is, read-is, read-keeps, committed-is, commit-is, commit-shares, swap-is}
 use Rattle.histories.proofs.map.Put.{put-by, set-put, lay-log, put-scene}

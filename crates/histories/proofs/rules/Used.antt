@@ -27,13 +27,12 @@ use Rattle.engine.specs.Inner.{Begins}
 use Rattle.engine.specs.State.{inUse, freeSheet, locksOf, lockCount, lockAt, workerAt, wordsOf}
 use Rattle.engine.specs.declared.Engine.{Engine}
 use Rattle.engine.specs.declared.Outcome.{Outcome}
-use Rattle.engine.proofs.Begins.{begins, sheet-taken}
+use Rattle.engine.proofs.Begins.{begins, sheet-taken, looks}
 use Rattle.past.specs.Past.{Past, stateAfter}
 use Rattle.past.proofs.Accepted.{idle-of, begin-told}
 use Rattle.ranges.specs.Good.{Good}
 use Rattle.ranges.proofs.Free.{free-lowest}
 use Rattle.ranges.proofs.Gave.{good-past}
-use Rattle.ranges.proofs.Programs.{looks}
 use Rattle.histories.specs.Used.{LowestFree, Used, Unseen}
 use Rattle.histories.proofs.rules.Spare.{in-use-locks}
 

@@ -23,7 +23,7 @@ use Rattle.engine.specs.declared.Engine.{Engine}
 use Rattle.helping.specs.Machine.{put}
 use Rattle.helping.proofs.Put.{put-same, put-other}
 use Rattle.ranges.specs.Good.{Good}
-use Rattle.ranges.proofs.Programs.{looks}
+use Rattle.engine.proofs.Begins.{looks}
 use Rattle.histories.specs.History.{Sofar, foundBy}
 use Rattle.histories.proofs.map.Put.{set-put}
 

@@ -1,0 +1,5 @@
+pub mod Formed
+pub mod Book
+pub mod Add
+pub mod Inner
+pub mod Books
