@@ -28,12 +28,14 @@
 #![warn(missing_docs)]
 
 pub mod book;
+pub mod job;
 #[allow(unsafe_code, missing_docs)]
 pub mod lent;
 mod record;
 #[cfg(test)]
 mod tests;
 
+pub use job::Job;
 pub use record::Recorder;
 use std::error::Error;
 use std::fmt;
