@@ -15,12 +15,32 @@ struct job {
   size_t length;
 };
 
-/* Load word 0, set 1, add, store to word 0, halt yes. */
-static const uint8_t add[] = {24, 0, 1, 0, 2, 0, 0, 0, 1, 1, 1, 0, 5, 0, 1, 0, 3, 0, 0, 0, 0, 1, 0, 0};
-/* Load words 0 and 1, skip one if they are equal, halt no, halt yes. */
-static const uint8_t equal[] = {24, 0, 1, 0, 2, 0, 0, 0, 2, 1, 1, 0, 7, 0, 1, 1, 0, 0, 0, 0, 0, 1, 0, 0};
-/* Set 7, set 500, and word 2 becomes 500 if it is 7; halt yes. */
-static const uint8_t exchange[] = {20, 0, 1, 0, 1, 0, 7, 0, 1, 1, 244, 1, 4, 0, 1, 2, 0, 1, 0, 0};
+/* Adds 1 to word 0. */
+static const uint8_t add[] = {
+    CHANT_JOB(5),
+    CHANT_LOAD(0, 0),
+    CHANT_SET(1, 1),
+    CHANT_ADD(0, 1),
+    CHANT_STORE(0, 0),
+    CHANT_HALT_YES,
+};
+/* Are words 0 and 1 equal? */
+static const uint8_t equal[] = {
+    CHANT_JOB(5),
+    CHANT_LOAD(0, 0),
+    CHANT_LOAD(1, 1),
+    CHANT_SKIP(1, 0, 1),
+    CHANT_HALT_NO,
+    CHANT_HALT_YES,
+};
+/* Word 2 becomes 500 if it is 7. */
+static const uint8_t exchange[] = {
+    CHANT_JOB(4),
+    CHANT_SET(0, 7),
+    CHANT_SET(1, 500),
+    CHANT_CAM(2, 0, 1),
+    CHANT_HALT_YES,
+};
 
 static const struct job jobs[] = {
     {"add", 0, add, sizeof add},

@@ -5,19 +5,42 @@
 
 /* Two locks; words 0, 1, 2 hold 5, 9, 7; lock 0 guards words 0 and 1. */
 static const uint8_t setup[] = {29, 0, 2, 0, 2, 3, 0, 0, 1, 5, 0, 0, 0, 9, 0, 0, 0, 7, 0, 0, 0, 0, 0, 0, 0, 0, 0, 0, 0};
-/* Each row is an entry: its length, kind 5, the job's number; then the job record. */
+/* Each entry: its length, kind 5, the job's number; then the job record. */
 static const uint8_t factory[] = {
-    /* 3: load word 0, set 1, add, store to word 0, halt yes */
-    30, 0, 5, 0, 3, 0, 24, 0, 1, 0, 2, 0, 0, 0, 1, 1, 1, 0, 5, 0, 1, 0, 3, 0, 0, 0, 0, 1, 0, 0,
-    /* 300: load words 0 and 1, skip one if they are equal, halt no, halt yes */
-    30, 0, 5, 0, 44, 1, 24, 0, 1, 0, 2, 0, 0, 0, 2, 1, 1, 0, 7, 0, 1, 1, 0, 0, 0, 0, 0, 1, 0, 0,
+    /* 3: adds 1 to word 0 */
+    30, 0, 5, 0, 3, 0,
+    CHANT_JOB(5),
+    CHANT_LOAD(0, 0),
+    CHANT_SET(1, 1),
+    CHANT_ADD(0, 1),
+    CHANT_STORE(0, 0),
+    CHANT_HALT_YES,
+    /* 300: are words 0 and 1 equal? */
+    30, 0, 5, 0, 44, 1,
+    CHANT_JOB(5),
+    CHANT_LOAD(0, 0),
+    CHANT_LOAD(1, 1),
+    CHANT_SKIP(1, 0, 1),
+    CHANT_HALT_NO,
+    CHANT_HALT_YES,
 };
 static const uint8_t line[] = {
     /* 3: this line adds 2 instead of 1 */
-    30, 0, 5, 0, 3, 0, 24, 0, 1, 0, 2, 0, 0, 0, 1, 1, 2, 0, 5, 0, 1, 0, 3, 0, 0, 0, 0, 1, 0, 0,
+    30, 0, 5, 0, 3, 0,
+    CHANT_JOB(5),
+    CHANT_LOAD(0, 0),
+    CHANT_SET(1, 2),
+    CHANT_ADD(0, 1),
+    CHANT_STORE(0, 0),
+    CHANT_HALT_YES,
 };
-/* Load word 1, store to word 0, halt yes. */
-static const uint8_t copy[] = {16, 0, 1, 0, 2, 0, 1, 0, 3, 0, 0, 0, 0, 1, 0, 0};
+/* Word 0 becomes word 1. */
+static const uint8_t copy[] = {
+    CHANT_JOB(3),
+    CHANT_LOAD(0, 1),
+    CHANT_STORE(0, 0),
+    CHANT_HALT_YES,
+};
 static const char *const answers[] = {"", "ran, yes", "ran, no", "not taken", "worn"};
 static const char *const books[] = {"books", "line book", "factory book"};
 static uint32_t state[CHANT_STATE_NUMBERS];

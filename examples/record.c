@@ -6,10 +6,24 @@
 
 /* Two locks; words 0, 1, 2 hold 5, 9, 7; lock 0 guards words 0 and 1. */
 static const uint8_t setup[] = {29, 0, 2, 0, 2, 3, 0, 0, 1, 5, 0, 0, 0, 9, 0, 0, 0, 7, 0, 0, 0, 0, 0, 0, 0, 0, 0, 0, 0};
-/* Load word 0, set 1, add, store to word 0, halt yes. */
-static const uint8_t add[] = {24, 0, 1, 0, 2, 0, 0, 0, 1, 1, 1, 0, 5, 0, 1, 0, 3, 0, 0, 0, 0, 1, 0, 0};
-/* Load words 0 and 1, skip one if they are equal, halt no, halt yes. */
-static const uint8_t equal[] = {24, 0, 1, 0, 2, 0, 0, 0, 2, 1, 1, 0, 7, 0, 1, 1, 0, 0, 0, 0, 0, 1, 0, 0};
+/* Adds 1 to word 0. */
+static const uint8_t add[] = {
+    CHANT_JOB(5),
+    CHANT_LOAD(0, 0),
+    CHANT_SET(1, 1),
+    CHANT_ADD(0, 1),
+    CHANT_STORE(0, 0),
+    CHANT_HALT_YES,
+};
+/* Are words 0 and 1 equal? */
+static const uint8_t equal[] = {
+    CHANT_JOB(5),
+    CHANT_LOAD(0, 0),
+    CHANT_LOAD(1, 1),
+    CHANT_SKIP(1, 0, 1),
+    CHANT_HALT_NO,
+    CHANT_HALT_YES,
+};
 static uint32_t state[CHANT_STATE_NUMBERS];
 
 /* Adds a record to the file. */
