@@ -1,24 +1,31 @@
 //! One worker is cut off in the middle of its job, and another finishes it.
 //! scripts/examples builds and runs this.
 
-use chantgarden::{Answer, Engine, Holder, Refusal};
+use chantgarden::{Answer, Engine, Holder, Job, Refusal};
+use std::error::Error;
 
 /// Two locks; words 0, 1, 2 hold 5, 9, 7; lock 0 guards words 0 and 1.
 const SETUP: [u8; 29] = [
     29, 0, 2, 0, 2, 3, 0, 0, 1, 5, 0, 0, 0, 9, 0, 0, 0, 7, 0, 0, 0, 0, 0, 0, 0, 0, 0, 0, 0,
 ];
-/// Load word 0, set 1, add, store to word 0, halt yes.
-const ADD: [u8; 24] = [
-    24, 0, 1, 0, 2, 0, 0, 0, 1, 1, 1, 0, 5, 0, 1, 0, 3, 0, 0, 0, 0, 1, 0, 0,
-];
-/// Load words 0 and 1, skip one if they are equal, halt no, halt yes.
-const EQUAL: [u8; 24] = [
-    24, 0, 1, 0, 2, 0, 0, 0, 2, 1, 1, 0, 7, 0, 1, 1, 0, 0, 0, 0, 0, 1, 0, 0,
-];
+/// Adds 1 to word 0.
+const ADD: &str = "
+    load r0 w0
+    set r1 1
+    add r0 r1
+    store r0 w0
+    halt yes";
+/// Are words 0 and 1 equal?
+const EQUAL: &str = "
+    load r0 w0
+    load r1 w1
+    skip to equal if r0 = r1
+    halt no
+    equal: halt yes";
 
 /// Begins a job under lock 0, steps it to its end and collects the answer.
-fn try_job(engine: &mut Engine, worker: u32, job: &[u8]) -> Result<(), Refusal> {
-    engine.begin(worker, 0, job)?;
+fn try_job(engine: &mut Engine, worker: u32, job: &Job) -> Result<(), Refusal> {
+    engine.begin(worker, 0, job.record())?;
     while engine.step(worker).is_ok() {}
     let told = engine.collect(worker)?;
     let answer = match told.answer {
@@ -44,10 +51,11 @@ fn tell(engine: &Engine) -> Result<(), Refusal> {
     Ok(())
 }
 
-fn main() -> Result<(), Refusal> {
+fn main() -> Result<(), Box<dyn Error>> {
+    let (add, equal): (Job, Job) = (ADD.parse()?, EQUAL.parse()?);
     let mut engine = Engine::blank();
     engine.setup(&SETUP)?;
-    engine.begin(0, 0, &ADD)?;
+    engine.begin(0, 0, add.record())?;
     // Its 6th step and its 10th fill the two entries of its log, so that its
     // helper fills none.
     for _ in 0..10 {
@@ -56,8 +64,9 @@ fn main() -> Result<(), Refusal> {
     engine.drop_worker(0)?;
     println!("worker 0: cut off after 10 steps");
     tell(&engine)?;
-    try_job(&mut engine, 1, &EQUAL)?;
+    try_job(&mut engine, 1, &equal)?;
     tell(&engine)?;
-    try_job(&mut engine, 1, &EQUAL)?;
-    tell(&engine)
+    try_job(&mut engine, 1, &equal)?;
+    tell(&engine)?;
+    Ok(())
 }

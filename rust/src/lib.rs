@@ -3,22 +3,24 @@
 //! in an answer or a [`Refusal`], and a refusal changes nothing.
 //!
 //! ```
-//! use chantgarden::{Answer, Engine, Refusal};
+//! use chantgarden::{Answer, Engine, Job};
 //!
-//! // One lock; it guards the only word, which holds 5. The job answers yes.
+//! // One lock; it guards the only word, which holds 5. The job doubles it.
 //! let setup = [15, 0, 2, 0, 1, 1, 0, 5, 0, 0, 0, 0, 0, 0, 0];
-//! let job = [8, 0, 1, 0, 0, 1, 0, 0];
+//! let job: Job = "load r0 w0\nadd r0 r0\nstore r0 w0\nhalt yes".parse()?;
 //! let mut engine = Engine::blank();
 //! engine.setup(&setup)?;
-//! engine.begin(0, 0, &job)?;
+//! engine.begin(0, 0, job.record())?;
 //! while engine.step(0).is_ok() {}
 //! assert_eq!(engine.collect(0)?.answer, Answer::RanYes);
-//! # Ok::<(), Refusal>(())
+//! assert_eq!(engine.read_word(0)?.value, 10);
+//! # Ok::<(), Box<dyn std::error::Error>>(())
 //! ```
 //!
 //! A [`Recorder`] makes the same calls and hands out a record of each, from
-//! which they can be made again. Numbered jobs stand in books ([`book`]). No
-//! answer is dropped unread without a warning of the compiler:
+//! which they can be made again. A [`Job`] is read and written as docs/JOBS.md
+//! has it. Numbered jobs stand in books ([`book`]). No answer is dropped unread
+//! without a warning of the compiler:
 //!
 //! ```compile_fail
 //! #![deny(unused_must_use)]

@@ -3,29 +3,62 @@
 //! reach, the lent calls with too few numbers, and the records of calls.
 
 use crate::lent::{self, NUMBERS};
-use crate::{plain, Answer, Engine, Holder, LockWord, Ran, Recorder, Refusal, Word};
+use crate::{plain, Answer, Engine, Holder, Job, LockWord, Ran, Recorder, Refusal, Word};
 use std::cell::RefCell;
+use std::sync::LazyLock;
+
+/// A job record, which is read from the notation once.
+pub(crate) type Record = LazyLock<Vec<u8>>;
+
+/// The record of a job in the notation.
+pub(crate) fn notated(text: &str) -> Vec<u8> {
+    let job: Job = text.parse().expect("it is good");
+    job.record().to_vec()
+}
 
 /// Setup S: two locks, words 5 and 9 under lock 0, word 7 under lock 1.
 const S: [u8; 29] = [
     29, 0, 2, 0, 2, 3, 0, 0, 1, 5, 0, 0, 0, 9, 0, 0, 0, 7, 0, 0, 0, 0, 0, 0, 0, 0, 0, 0, 0,
 ];
 /// Job A adds 1 to word 0.
-const A: [u8; 24] = [
-    24, 0, 1, 0, 2, 0, 0, 0, 1, 1, 1, 0, 5, 0, 1, 0, 3, 0, 0, 0, 0, 1, 0, 0,
-];
+static A: Record = LazyLock::new(|| {
+    notated(
+        "
+        load r0 w0
+        set r1 1
+        add r0 r1
+        store r0 w0
+        halt yes",
+    )
+});
 /// Job B: are words 0 and 1 equal?
-const B: [u8; 24] = [
-    24, 0, 1, 0, 2, 0, 0, 0, 2, 1, 1, 0, 7, 0, 1, 1, 0, 0, 0, 0, 0, 1, 0, 0,
-];
+static B: Record = LazyLock::new(|| {
+    notated(
+        "
+        load r0 w0
+        load r1 w1
+        skip 1 if r0 = r1
+        halt no
+        halt yes",
+    )
+});
 /// Job C, step by step: 1 to 4 lead to the run. Load word 0: 5, and commit 6.
 /// Set 9: 7. Cam of word 1, which is not 5: 8, and commit 9. Cam of word 1,
 /// which is 9 and becomes 5: 10, commit 11, swap 12. Skip over a load: 13.
 /// Store 9 to word 0: 14, commit 15, swap 16. Halt 17, Mark 18, Release 19.
-const C: [u8; 36] = [
-    36, 0, 1, 0, 2, 0, 0, 0, 1, 1, 9, 0, 4, 0, 1, 1, 4, 1, 0, 1, 7, 2, 3, 1, 2, 2, 0, 0, 3, 1, 0,
-    0, 0, 1, 0, 0,
-];
+static C: Record = LazyLock::new(|| {
+    notated(
+        "
+        load r0 w0
+        set r1 9
+        cam w1 r0 r1
+        cam w1 r1 r0
+        skip 1 if r2 = r3
+        load r2 w0
+        store r1 w0
+        halt yes",
+    )
+});
 
 /// The last turn of a lock: 2 to the 26th.
 const LAST: u32 = 67_108_864;
@@ -146,7 +179,7 @@ fn row_h() {
 
 #[test]
 fn rows_i_and_j() {
-    let mut skip_two = B;
+    let mut skip_two = B.clone();
     skip_two[15] = 2;
     assert_eq!(engine().begin(0, 0, &skip_two), refused(7, 2));
     assert_eq!(engine().begin(0, 1, &A), refused(8, 0));
@@ -424,7 +457,7 @@ fn the_writers_and_their_refusals() {
     assert_eq!(engine.park(&mut buffer), Ok(29));
     assert_eq!(buffer[..29], S);
     assert_eq!(engine.show(0, &mut buffer), Ok(24));
-    assert_eq!(buffer[..24], A);
+    assert_eq!(buffer[..24], A[..]);
     assert_eq!(buffer[24..29], S[24..]);
     assert!(buffer[29..].iter().all(|&byte| byte == 0xA5));
     assert_eq!(engine.step(0), Ok(()));

@@ -1,16 +1,33 @@
 //! The program `books`, run on files in a temporary folder: what it prints,
 //! its exit status, and what it leaves in the files.
 
+use chantgarden::Job;
 use std::path::{Path, PathBuf};
 use std::process::{Command, Output};
+use std::sync::LazyLock;
 use std::{env, fs, process, thread};
 
+/// A job record, which is read from the notation once.
+type Record = LazyLock<Vec<u8>>;
+
 /// Adds 1 to word 0, then halts with yes; halts with yes; halts with no.
-const ADD: [u8; 24] = [
-    24, 0, 1, 0, 2, 0, 0, 0, 1, 1, 1, 0, 5, 0, 1, 0, 3, 0, 0, 0, 0, 1, 0, 0,
-];
-const YES: [u8; 8] = [8, 0, 1, 0, 0, 1, 0, 0];
-const NO: [u8; 8] = [8, 0, 1, 0, 0, 0, 0, 0];
+static ADD: Record = LazyLock::new(|| {
+    notated(
+        "
+        load r0 w0
+        set r1 1
+        add r0 r1
+        store r0 w0
+        halt yes",
+    )
+});
+static YES: Record = LazyLock::new(|| notated("halt yes"));
+static NO: Record = LazyLock::new(|| notated("halt no"));
+
+fn notated(text: &str) -> Vec<u8> {
+    let job: Job = text.parse().expect("it is good");
+    job.record().to_vec()
+}
 
 /// A folder of one test's own, removed at its end.
 struct Folder(PathBuf);

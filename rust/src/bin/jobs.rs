@@ -226,7 +226,7 @@ fn first_record(bytes: &[u8]) -> Option<(&[u8], &[u8])> {
 
 /// By its length, 1 to 64 instructions.
 fn is_program(bytes: &[u8]) -> bool {
-    bytes.len() % 4 == 0 && (1..=64).contains(&(bytes.len() / 4))
+    bytes.len().is_multiple_of(4) && (1..=64).contains(&(bytes.len() / 4))
 }
 
 /// The job record of a call record's instructions, of the kind of their count.

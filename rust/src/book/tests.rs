@@ -3,18 +3,34 @@
 //! entry is told; what the writer writes, and its refusals in their order.
 
 use super::*;
+use crate::tests::{notated, Record};
 use crate::{Answer, Engine};
+use std::sync::LazyLock;
 
 /// Job A adds 1 to word 0; job B: are words 0 and 1 equal?
-const A: [u8; 24] = [
-    24, 0, 1, 0, 2, 0, 0, 0, 1, 1, 1, 0, 5, 0, 1, 0, 3, 0, 0, 0, 0, 1, 0, 0,
-];
-const B: [u8; 24] = [
-    24, 0, 1, 0, 2, 0, 0, 0, 2, 1, 1, 0, 7, 0, 1, 1, 0, 0, 0, 0, 0, 1, 0, 0,
-];
+static A: Record = LazyLock::new(|| {
+    notated(
+        "
+        load r0 w0
+        set r1 1
+        add r0 r1
+        store r0 w0
+        halt yes",
+    )
+});
+static B: Record = LazyLock::new(|| {
+    notated(
+        "
+        load r0 w0
+        load r1 w1
+        skip 1 if r0 = r1
+        halt no
+        halt yes",
+    )
+});
 /// Halts with yes, with no.
-const YES: [u8; 8] = [8, 0, 1, 0, 0, 1, 0, 0];
-const NO: [u8; 8] = [8, 0, 1, 0, 0, 0, 0, 0];
+static YES: Record = LazyLock::new(|| notated("halt yes"));
+static NO: Record = LazyLock::new(|| notated("halt no"));
 /// The bytes of an entry before its job.
 const HEAD: usize = 6;
 /// What is in a buffer before it is lent.
@@ -272,9 +288,9 @@ fn writes_none(book: &[u8], number: u32, job: &[u8], room: usize, no: Refusal) {
 #[test]
 fn the_writers_refusals_in_their_order() {
     let good = book_of(&jobs());
-    let mut bad_job = B;
+    let mut bad_job = B.clone();
     bad_job[15] = 2;
-    let mut bad_kind = bad_job;
+    let mut bad_kind = bad_job.clone();
     bad_kind[2] = 2;
     for bad in bad_entries() {
         let book = [entry(7, &A), bad].concat();
