@@ -64,25 +64,33 @@
 #define CHANT_LINE_BOOK 1
 #define CHANT_FACTORY_BOOK 2
 
-/* Jobs as docs/JOBS.md writes them: the head with the number of instructions, then each, its operands in the notation's order. The
- * compiler works out the bytes, and refuses a number that is out of its range. That the head's number is right, that a skip ends within the job and that
- * the last is a halt is left to begin, which refuses 5 and 7.
+/* Jobs as docs/JOBS.md writes them: the head with the number of instructions, then the instructions, their operands in the notation's
+ * order. The bytes are worked out while compiling, and a register, word or number that is out of its range does not compile. That the
+ * head's number is right, a skip ends within the job and the last is a halt is left to begin, which refuses 5 and 7.
  *
- *   static const uint8_t add[] = {CHANT_JOB(5),            one: adds 1 to word 0
- *                                 CHANT_LOAD(0, 0),        load r0 w0
- *                                 CHANT_SET(1, 1),         set r1 1
- *                                 CHANT_ADD(0, 1),         add r0 r1
- *                                 CHANT_STORE(0, 0),       store r0 w0
- *                                 CHANT_HALT_YES};         halt yes
+ *   static const uint8_t add[] = {
+ *       CHANT_JOB(5),
+ *       CHANT_LOAD(0, 0),    load r0 w0
+ *       CHANT_SET(1, 1),     set r1 1
+ *       CHANT_ADD(0, 1),     add r0 r1
+ *       CHANT_STORE(0, 0),   store r0 w0
+ *       CHANT_HALT_YES,      halt yes
+ *   };
  */
 #define CHANT_JOB(n) CHANT_LOW(CHANT_OF(n, 1, 64) * 4 + 4), CHANT_HIGH((n) * 4 + 4), CHANT_BYTE((n) <= 32 ? 1 : 4), 0
-#define CHANT_LOAD(reg, word) 2, CHANT_REG(reg), CHANT_WORD(word), 0            /* load r0 w2: register 0 becomes word 2 */
-#define CHANT_STORE(reg, word) 3, CHANT_REG(reg), CHANT_WORD(word), 0           /* store r0 w2: word 2 becomes register 0 */
-#define CHANT_CAM(word, old, new) 4, CHANT_REG(old), CHANT_REG(new), CHANT_WORD(word) /* cam w2 r0 r1: if word 2 is r0 it becomes r1 */
-#define CHANT_SET(reg, number) 1, CHANT_REG(reg), CHANT_LOW(CHANT_OF(number, 0, 65535)), CHANT_HIGH(number) /* set r1 500 */
-#define CHANT_ADD(reg, other) 5, CHANT_REG(reg), CHANT_REG(other), 0            /* add r0 r1: register 0 becomes r0 plus r1 */
-#define CHANT_SUB(reg, other) 6, CHANT_REG(reg), CHANT_REG(other), 0            /* sub r0 r1: register 0 becomes r0 less r1 */
-#define CHANT_SKIP(over, one, other) 7, CHANT_REG(one), CHANT_REG(other), CHANT_BYTE(CHANT_OF(over, 1, 62)) /* skip 2 if r0 = r1 */
+/* load r0 w2: register 0 becomes word 2; store r0 w2: word 2 becomes register 0 */
+#define CHANT_LOAD(reg, word) 2, CHANT_REG(reg), CHANT_WORD(word), 0
+#define CHANT_STORE(reg, word) 3, CHANT_REG(reg), CHANT_WORD(word), 0
+/* cam w2 r0 r1: if word 2 equals register 0 it becomes register 1 */
+#define CHANT_CAM(word, old, new) 4, CHANT_REG(old), CHANT_REG(new), CHANT_WORD(word)
+/* set r1 500: register 1 becomes 500 */
+#define CHANT_SET(reg, number) 1, CHANT_REG(reg), CHANT_LOW(CHANT_OF(number, 0, 65535)), CHANT_HIGH(number)
+/* add r0 r1, sub r0 r1: register 0 becomes register 0 plus, or less, register 1 */
+#define CHANT_ADD(reg, other) 5, CHANT_REG(reg), CHANT_REG(other), 0
+#define CHANT_SUB(reg, other) 6, CHANT_REG(reg), CHANT_REG(other), 0
+/* skip 2 if r0 = r1, which is CHANT_SKIP(2, 0, 1): if registers 0 and 1 are equal, the next 2 instructions are passed over */
+#define CHANT_SKIP(over, one, other) 7, CHANT_REG(one), CHANT_REG(other), CHANT_BYTE(CHANT_OF(over, 1, 62))
+/* halt yes, halt no: the job's answer */
 #define CHANT_HALT_YES 0, 1, 0, 0
 #define CHANT_HALT_NO 0, 0, 0, 0
 

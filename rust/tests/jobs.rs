@@ -166,10 +166,8 @@ line 10: worker 0, lock 0
     }
 }
 
-/// What a unit recorded, whole and cut off.
-#[test]
-fn the_jobs_of_a_call_file() {
-    let folder = Folder::new("calls");
+/// What a unit recorded: two begins, the second of them call 15.
+fn recorded(long: &Job) -> Vec<u8> {
     let mut engine = Engine::blank();
     let mut file = Vec::new();
     let mut recorder = Recorder::new(&mut engine, |record| file.extend(record));
@@ -177,14 +175,20 @@ fn the_jobs_of_a_call_file() {
     recorder.begin(3, 0, &bytes(RECORD)).expect("it is good");
     while recorder.step(3).is_ok() {}
     let _ = recorder.collect(3).expect("it has an answer");
-    let long: Job = ("load r0 w2\n".repeat(40) + "halt no")
-        .parse()
-        .expect("it is good");
     recorder.begin(7, 1, long.record()).expect("it is good");
+    file
+}
+
+/// Whole, damaged and cut off.
+#[test]
+fn the_jobs_of_a_call_file() {
+    let folder = Folder::new("calls");
+    let long = "load r0 w2\n".repeat(40) + "halt no";
+    let file = recorded(&long.parse().expect("it is good"));
     let whole = format!(
         "call 0: worker 3, lock 0\n{}call 15: worker 7, lock 1\n{}",
         indented(EQUAL),
-        indented(&long.to_string())
+        indented(&long)
     );
     folder.put("whole", &file);
     folder.tells("list whole", &whole, "");

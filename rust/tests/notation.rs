@@ -58,7 +58,11 @@ fn engine() -> Engine {
 
 /// What begin tells of a record; its worker is idle again.
 fn begun(engine: &mut Engine, record: &[u8]) -> Result<(), Refusal> {
-    engine.begin(0, 0, record)?;
+    begun_on(engine, 0, record)
+}
+
+fn begun_on(engine: &mut Engine, lock: u32, record: &[u8]) -> Result<(), Refusal> {
+    engine.begin(0, lock, record)?;
     engine.drop_worker(0)
 }
 
@@ -259,6 +263,43 @@ fn random_texts() {
     let (many, time) = (many(), start.elapsed().as_secs_f32());
     println!("texts: {many} gave the job written in them; of as many damaged ones {parsed} parsed and were accepted, {faulty} told their faults, {time:.1} s");
     assert!(parsed > many / 20 && faulty > many / 20);
+}
+
+/// A setup of up to three locks, and words that they guard.
+fn setup(random: &mut Random) -> Vec<u8> {
+    let (locks, words) = (1 + random.below(3), 1 + random.below(64));
+    let length = 6 + 5 * words + 4 * locks;
+    let mut setup = [length as u16, 2].map(u16::to_le_bytes).concat();
+    setup.extend([locks as u8, words as u8]);
+    setup.extend((0..words).map(|_| random.byte(locks)));
+    setup.resize(length, 0);
+    setup
+}
+
+/// Which instruction a lock would refuse is what begin then tells.
+#[test]
+fn random_setups() {
+    let mut random = Random(4);
+    let mut told = [0; 3];
+    for _ in 0..many() {
+        let (setup, job) = (setup(&mut random), good(&mut random));
+        let lock = random.below(4) as u32;
+        let mut engine = Engine::blank();
+        assert_eq!(engine.setup(&setup), Ok(()));
+        let begun = begun_on(&mut engine, lock, job.record());
+        let (which, before) = match job.under(&setup, lock) {
+            Err(refusal) => (0, Err(refusal)),
+            Ok(faults) => match faults.first() {
+                Some(fault) => (1, Err(fault.refusal.expect("it is refused"))),
+                None => (2, Ok(())),
+            },
+        };
+        assert_eq!(begun, before, "{setup:?} {lock}\n{job}");
+        told[which] += 1;
+    }
+    let [none, refused, accepted] = told;
+    println!("setups: {refused} jobs told the instruction that begin refuses with 8, {accepted} were accepted, {none} had no such lock");
+    assert!(told.iter().all(|many_of_it| *many_of_it > many() / 20));
 }
 
 /// No run alone takes more steps than its worst case, and some take as many.
