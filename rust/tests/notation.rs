@@ -245,6 +245,7 @@ fn random_texts() {
         let job = good(&mut random);
         let text = written(&mut random, &job);
         assert_eq!(text.parse().as_ref(), Ok(&job), "{text}");
+        assert_eq!(begun(&mut engine, job.record()), Ok(()), "{text}");
         let text = damaged(&mut random, &text);
         match text.parse::<Job>() {
             Ok(job) => {
@@ -261,7 +262,7 @@ fn random_texts() {
         }
     }
     let (many, time) = (many(), start.elapsed().as_secs_f32());
-    println!("texts: {many} gave the job written in them; of as many damaged ones {parsed} parsed and were accepted, {faulty} told their faults, {time:.1} s");
+    println!("texts: {many} gave the job written in them, which was accepted; of as many damaged ones {parsed} parsed and were accepted, {faulty} told their faults, {time:.1} s");
     assert!(parsed > many / 20 && faulty > many / 20);
 }
 
