@@ -1,5 +1,7 @@
 // A job alone: "the same program on the words' plain values, without log, change counts or helpers".
 // It runs on the program's bytes. The eight meanings of an instruction are those of the crate parts.
+#![tactic(auto)]
+
 ghost use Rattle.std.specs.Prelude.{◌≡◌, zero, ◌+◌, ◌*◌, ◌^◌, ◌<◌, length, get_or, set, drop};
 ghost use Rattle.records.specs.Job.{instrs_of};
 ghost use Rattle.alone.specs.Alone.{touched_registers, touched_words, left_of, alone_from, alone_of};
@@ -7,7 +9,7 @@ ghost use Rattle.alone.specs.Alone.{touched_registers, touched_words, left_of, a
 use parts::{Asks, Follows, Instr, Registers};
 
 // What a job alone answers, and how many instructions it executed: the halt counts, those passed over don't.
-#[derive(Drop)]
+#[derive(Clone, Copy)]
 pub struct Ran {
     pub yes: bool,
     pub executed: usize,

@@ -19,7 +19,6 @@ use Rattle.records.proofs.Laws.{part_end}
 use Rattle.book.specs.Book.{number_field, bad_head, bad_entry, book_from, place_from}
 use Rattle.book.specs.declared.Place.{Place}
 use Rattle.book.proofs.Laws.{Head, head_good}
-use Rattle.book.proofs.Theory.Passing.{book_pass, place_pass}
 
 -- an entry that is not bad has a good head
 pub entry_good : (low : ℕ) (s : List ℕ) → bad_entry low s ≡ false → Head low s
@@ -28,6 +27,23 @@ entry_good low s h = head_good low s (neither (bad_head low s) _ h).0
 
 pub part_length : (n : ℕ) (s : List ℕ) → length (take (length s - n) (drop n s)) ≡ length s - n
 part_length n s = simp (part_end, length-drop)
+
+-- n bytes that are passed over
+pub book_drop : (n at low : ℕ) (s : List ℕ) → book_from n at low s ≡ book_from 0 (at + n) low (drop n s)
+unfolding book_from
+book_drop zero at low [] = refl
+book_drop (suc n) at low [] = refl
+book_drop zero at low (b ∷ s) = let e : at + 0 ≡ at = omega arith in simp e
+book_drop (suc n) at low (b ∷ s) = let e : at + 1 + n ≡ at + suc n = omega arith in book_drop n (at + 1) low s ∙ simp e
+
+pub place_drop :
+    (number n at : ℕ) (s : List ℕ) → n ≤ length s → place_from number n at s ≡ place_from number 0 (at + n) (drop n s)
+unfolding place_from
+place_drop number zero at [] h = let e : at + 0 ≡ at = omega arith in simp e
+place_drop number (suc n) at [] h = absurd (omega arith)
+place_drop number zero at (b ∷ s) h = let e : at + 0 ≡ at = omega arith in simp e
+place_drop number (suc n) at (b ∷ s) h =
+    let e : at + 1 + n ≡ at + suc n = omega arith in place_drop number n (at + 1) s (omega arith) ∙ simp e
 
 -- the front of a book that has a byte, where its entry is good
 book_front :
@@ -67,7 +83,7 @@ module _ (goal : Told) (at low : ℕ) (s : List ℕ) (g : goal ≡ book_from 0 a
         (size n : ℕ) → b ≡ false → size ≡ length_field s → n ≡ number_field s →
         goal ≡ book_from 0 (at + size) (n + 1) (take (length s - size) (drop size s))
     walk_turn size n q z m =
-        g ∙ book_front at low s h (sym e ∙ q) ∙ book_pass (length_field s) at (number_field s + 1) s ∙ simp (← z, ← m, part_end size s)
+        g ∙ book_front at low s h (sym e ∙ q) ∙ book_drop (length_field s) at (number_field s + 1) s ∙ simp (← z, ← m, part_end size s)
 
 -- what was told of the entry at the front, by a callee
 module _ (b : Bool) (low : ℕ) (s : List ℕ) (e : b ≡ bad_entry low s) (h : b ≡ false) where
@@ -158,7 +174,7 @@ module _ (goal : Place) (number at : ℕ) (s : List ℕ) (g : goal ≡ place_fro
     place_turn q w =
         let k = (left_head at s l h).whole in
         let b : n < number = ⊎_elim (λ y. absurd (w y)) (λ y. y) (eq-or-lt_of_le q) in
-        front ∙ simp (lt-ltb n number b) (place_pass number size at s (omega arith) ∙ simp (part_end size s))
+        front ∙ simp (lt-ltb n number b) (place_drop number size at s (omega arith) ∙ simp (part_end size s))
 
 -- what is read at the front of what is left
 module _ (at : ℕ) (s : List ℕ) (l : Left at s) (h : 0 < length s) where

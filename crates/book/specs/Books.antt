@@ -17,11 +17,6 @@ pub record Holds (book : List ℕ) (number : ℕ) (rec : List ℕ) : Type 0 wher
   -- without this, rec could run on 65,536 bytes past the job: its length field would say the same
   pub fits : head_bytes + length rec < 65536
 
--- and its job record begins at byte `from` of the book
-pub record HoldsAt (book : List ℕ) (number : ℕ) (rec : List ℕ) (from : ℕ) : Type 0 where
-  pub holds : Holds book number rec
-  pub place : from ≡ length holds.front + head_bytes
-
 abbrev pub HasNot : List ℕ → ℕ → Type 0
 HasNot book number = (rec : List ℕ) → Holds book number rec → ⊥
 
@@ -32,11 +27,10 @@ pub record LooksUp (line factory : List ℕ) (number : ℕ) : Type 0 where
       ((find_of line factory number).book ≡ 1) ⊎ ((find_of line factory number).book ≡ 2)
   pub in_line :
       (find_of line factory number).told ≡ Accepted → (find_of line factory number).book ≡ 1 →
-      HoldsAt line number (lookup_of line factory number) (find_of line factory number).from
+      Holds line number (lookup_of line factory number)
   pub in_factory :
       (find_of line factory number).told ≡ Accepted → (find_of line factory number).book ≡ 2 →
-      HoldsAt factory number (lookup_of line factory number) (find_of line factory number).from × HasNot line number
-  pub size : (find_of line factory number).told ≡ Accepted → (find_of line factory number).length ≡ length (lookup_of line factory number)
+      Holds factory number (lookup_of line factory number) × HasNot line number
   pub not_there :
       (find_of line factory number).told ≡ Refused NotThere →
       (book_told line ≡ Accepted) × (book_told factory ≡ Accepted) × HasNot line number × HasNot factory number
@@ -47,12 +41,6 @@ pub record LooksUp (line factory : List ℕ) (number : ℕ) : Type 0 where
   pub empty : (r : Refusal) → (find_of line factory number).told ≡ Refused r → lookup_of line factory number ≡ []
   pub full : (find_of line factory number).told ≡ Accepted → 0 < length (lookup_of line factory number)
   pub formed : (find_of line factory number).told ≡ Accepted → formed_told (lookup_of line factory number) ≡ Accepted
-
--- "the offset of the first bad entry": the book is good up to there, and no further
-pub record FirstBad (book : List ℕ) (at : ℕ) : Type 0 where
-  pub inside : at < length book
-  pub before : book_told (take at book) ≡ Accepted
-  pub further : (n : ℕ) → at < n → n ≤ length book → book_told (take n book) ≢ Accepted
 
 -- "A book is checked whole .. before any lookup"; 18 with "the offset of the first bad entry", of the line book before the factory book, and
 -- "A call that tells why also tells which book"; what is held is found
@@ -75,17 +63,12 @@ pub record Books : Type 0 where
   pub lookup :
       (line factory : List ℕ) (number : ℕ) → AllBytes line → AllBytes factory → LooksUp line factory number
   pub told : (line factory : List ℕ) (number : ℕ) → AllBytes line → AllBytes factory → Told line factory number
-  pub malformed :
-      (book : List ℕ) (r : Refusal) → AllBytes book → book_told book ≡ Refused r →
-      (at : ℕ) × (r ≡ Malformed at) × FirstBad book at
   -- what is told is below any bound of the books' lengths: C's 32 bits cut nothing of books below 4 GB
   pub small :
       (line factory : List ℕ) (number n : ℕ) → length line < n → length factory < n →
       ((find_of line factory number).from + (find_of line factory number).length < n) ×
       ((r : Refusal) → (find_of line factory number).told ≡ Refused r → refusal_place r < n)
-  -- a job is checked as begin checks it for a lock that guards every word that a byte can name
-  pub exact : (rec : List ℕ) (l : ℕ) → AllBytes rec → formed_told rec ≡ job_told rec l (replicate 256 l)
-  -- so begin's rows 5 to 7 accept a book's job, and 8 may refuse
+  -- of a book's job begin's rows 5 to 7 accept, and 8 may refuse
   pub begins :
       (rec : List ℕ) (l : ℕ) (guards : List ℕ) → formed_told rec ≡ Accepted →
       (job_told rec l guards ≡ Accepted) ⊎ ((p : ℕ) × (job_told rec l guards ≡ Refused (Guard p)))

@@ -1,5 +1,7 @@
 // The book of standard jobs (request 08): entries end to end, each a job number and a whole job record, with numbers that strictly rise. A
 // lookup hands back the job record as it stands inside one of two lent books; the writer writes a book with one job more.
+#![tactic(auto)]
+
 ghost use Rattle.std.specs.Prelude.{◌≡◌, ◌≤◌, ◌<◌, ◌+◌, ◌^◌, length};
 ghost use Rattle.parts.specs.declared.Told.TheVariants.{Accepted};
 ghost use Rattle.book.specs.Book.{book_told, found_in, nowhere, in_books, find_of, lookup_of, lookup_at};
@@ -14,7 +16,7 @@ use parts::{Refusal, Told};
 
 // The place of a number in a book: where the first entry begins whose number is not below it, or the book's end, and how long that entry is
 // where it has the number, else 0.
-#[derive(Drop)]
+#[derive(Clone, Copy)]
 pub struct Place {
     pub at: usize,
     pub size: usize,
@@ -22,7 +24,7 @@ pub struct Place {
 
 // What a search tells: whether it was accepted; the book, 1 line, 2 factory, 0 none, under 18 the malformed one; where the job record begins
 // there, and its length.
-#[derive(Drop)]
+#[derive(Clone, Copy)]
 pub struct Found {
     pub told: Told,
     pub book: u32,
@@ -31,7 +33,7 @@ pub struct Found {
 }
 
 // What the writer tells: whether it was accepted, and how many bytes it wrote.
-#[derive(Drop)]
+#[derive(Clone, Copy)]
 pub struct Added {
     pub told: Told,
     pub length: usize,

@@ -1,4 +1,6 @@
 // The engine by value, for the benchmark: a state that lives inside one call, since an exported function may hold no enum.
+#![tactic(auto)]
+
 ghost use Rattle.std.specs.Prelude.{◌≡◌};
 ghost use Rattle.engine.specs.Calls.{setup_of};
 ghost use Rattle.by_value.specs.Timed.{begun_from, counted_of, accepted_from};

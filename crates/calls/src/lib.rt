@@ -1,4 +1,6 @@
 // Call records: which are accepted, the reader that hands them out, and the writer.
+#![tactic(auto)]
+
 pub mod reader;
 pub mod record;
 pub mod write;

@@ -7,7 +7,7 @@ use crate::record::{record_told, size_of};
 use parts::{Refusal, Told};
 
 // What stands at a place: a call record, from its first byte up to the byte past it; one that is refused; the end.
-#[derive(Drop)]
+#[derive(Clone, Copy)]
 pub enum Item {
     Record(usize, usize),
     Refused(Refusal),
@@ -41,7 +41,7 @@ pub fn past_at(bytes: &[u8], place: usize) -> usize
     }
 }
 
-#[derive(Drop)]
+#[derive(Clone, Copy)]
 pub struct Reader<'a> {
     pub bytes: &'a [u8],
     pub place: usize,
@@ -80,7 +80,7 @@ impl<'a> Reader<'a> {
 }
 
 // What the reader hands out, and where it stands then.
-#[derive(Drop)]
+#[derive(Clone, Copy)]
 pub struct Handed {
     pub item: Item,
     pub place: usize,

@@ -1,5 +1,5 @@
 -- A worker's numbers written one by one: what they say then, and what the whole state is.
-use Prim.Native.Nat.{ℕ, zero, suc, ◌+◌, ◌*◌, ◌%◌, ◌^◌, ◌<◌, ◌≤◌}
+use Prim.Native.Nat.{ℕ, zero, suc, ◌+◌, ◌<◌, ◌≤◌}
 use mathlib.Core.Bool.{Bool, true, false}
 use mathlib.Core.List.{List, [], ◌∷◌}
 use mathlib.Core.Logic.{◌⊎◌, inl, inr, ⊎_elim}
@@ -20,9 +20,9 @@ use Rattle.engine.specs.declared.Engine.{Engine}
 use Rattle.cells.specs.Codes.{byte_of, at_tag, at_lock, at_own, at_steps, at_filled, at_register, state_in, worker_in}
 use Rattle.cells.specs.Layout.{numbers, worker_used, worker_part, lock_part, word_part, sheet_part, instr_part, entry_part, unpack, row_of, number_at, run_now, put_number, put_idle}
 use Rattle.cells.specs.Pieces.{reads, place_of, pieces_of}
-use Rattle.cells.proofs.Back.{length_entry, length_worker}
+use Rattle.cells.proofs.Back.{length_entry}
 use Rattle.cells.proofs.Unpack.{Says}
-use Rattle.cells.proofs.Pieces.{Sound, lay_out, pieces_get, pieces_length, pieces_lay}
+use Rattle.cells.proofs.Pieces.{lay_out, pieces_get, pieces_length, pieces_lay}
 
 -- numbers apart from the one that was written
 reads_apart :

@@ -10,7 +10,7 @@ use Rattle.parts.specs.Numbers.{workers}
 use Rattle.parts.specs.declared.Answer.{Answer}
 use Rattle.steps.specs.Worker.{on_state}
 use Rattle.steps.specs.declared.State.{State}
-use Rattle.steps.specs.declared.State.TheVariants.{Idle, UnderWay, Finished}
+use Rattle.steps.specs.declared.State.TheVariants.{Idle, Finished}
 use Rattle.steps.specs.declared.Worker.{Worker}
 use Rattle.engine.specs.State.{worker_at}
 use Rattle.cells.specs.Codes.{state_in, answer_in, at_tag, at_new, idle_tag, release_tag}

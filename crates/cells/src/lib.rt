@@ -1,5 +1,7 @@
 // The state as numbers that a caller lends: each piece is read and written in place. Of a whole piece a contract gives the numbers
 // exactly, and the state that they say (`unpack`); of one number of a worker, the numbers alone.
+#![tactic(auto)]
+
 ghost use Rattle.std.specs.Prelude.{◌≡◌, ◌≤◌, ◌<◌, length, get_or};
 ghost use Rattle.parts.specs.Numbers.{workers, most_locks, most_words, sheets, entries};
 ghost use Rattle.parts.specs.Parts.{word0, lock0, instr0, entry0, register_of};

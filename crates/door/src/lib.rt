@@ -1,5 +1,7 @@
 // What C can call: the nine calls on numbers that the caller lends, the writer of a call's record, the plain engine, which is lent
 // the words, and the search and the writer of books of jobs. A reply's number 0 says accepted; any other is a refusal's, with its place. Fewer numbers than a state takes: 22, and nothing is changed.
+#![tactic(auto)]
+
 ghost use Rattle.std.specs.Prelude.{◌≡◌, ◌≤◌, length};
 ghost use Rattle.engine.specs.Calls.{setup_of, begin_of, step_of, collect_of, drop_of};
 ghost use Rattle.cells.specs.Layout.{numbers, unpack};
@@ -10,14 +12,14 @@ mod replies;
 use cells::NUMBERS;
 
 #[repr(C)]
-#[derive(Drop)]
+#[derive(Clone, Copy)]
 pub struct Reply {
     pub number: u32,
     pub place: u32,
 }
 
 #[repr(C)]
-#[derive(Drop)]
+#[derive(Clone, Copy)]
 pub struct Collected {
     pub number: u32,
     pub place: u32,
@@ -27,7 +29,7 @@ pub struct Collected {
 }
 
 #[repr(C)]
-#[derive(Drop)]
+#[derive(Clone, Copy)]
 pub struct WordRead {
     pub number: u32,
     pub place: u32,
@@ -37,7 +39,7 @@ pub struct WordRead {
 }
 
 #[repr(C)]
-#[derive(Drop)]
+#[derive(Clone, Copy)]
 pub struct LockRead {
     pub number: u32,
     pub place: u32,
@@ -47,7 +49,7 @@ pub struct LockRead {
 }
 
 #[repr(C)]
-#[derive(Drop)]
+#[derive(Clone, Copy)]
 pub struct Wrote {
     pub number: u32,
     pub place: u32,
@@ -55,7 +57,7 @@ pub struct Wrote {
 }
 
 #[repr(C)]
-#[derive(Drop)]
+#[derive(Clone, Copy)]
 pub struct BookFound {
     pub number: u32,
     pub place: u32,
@@ -65,7 +67,7 @@ pub struct BookFound {
 }
 
 #[repr(C)]
-#[derive(Drop)]
+#[derive(Clone, Copy)]
 pub struct Plain {
     pub number: u32,
     pub place: u32,
@@ -74,11 +76,10 @@ pub struct Plain {
 }
 
 // A fresh state from a setup record; a refused one gives the blank state. Refused: 22, 5, 6, 12.
-#[unsafe(no_mangle)]
-pub extern "C" fn chant_setup(state: &mut [u32], rec: &[u8]) -> Reply
+pub fn chant_setup(state: &mut [u32], rec: &[u8]) -> Reply
     ensures value { result ≡ setup_reply state.old rec.now }
     ensures state_after { state.new ≡ setup_left state.old rec.now }
-    ensures state_after_2 { numbers ≤ length state.old → unpack state.new ≡ (setup_of rec.now).engine }
+    ensures unpacked { numbers ≤ length state.old → unpack state.new ≡ (setup_of rec.now).engine }
 {
     if state.len() < NUMBERS {
         return replies::short();
@@ -88,11 +89,10 @@ pub extern "C" fn chant_setup(state: &mut [u32], rec: &[u8]) -> Reply
 }
 
 // A worker takes a job for a lock. Refused: 22, 1, 3, 4, 2, 5, 6, 7, 8, 9, 10.
-#[unsafe(no_mangle)]
-pub extern "C" fn chant_begin(state: &mut [u32], worker: u32, lock: u32, rec: &[u8]) -> Reply
+pub fn chant_begin(state: &mut [u32], worker: u32, lock: u32, rec: &[u8]) -> Reply
     ensures value { result ≡ begin_reply state.old worker lock rec.now }
     ensures state_after { state.new ≡ begin_left state.old worker lock rec.now }
-    ensures state_after_2 { numbers ≤ length state.old → unpack state.new ≡ (begin_of (unpack state.old) worker lock rec.now).engine }
+    ensures unpacked { numbers ≤ length state.old → unpack state.new ≡ (begin_of (unpack state.old) worker lock rec.now).engine }
 {
     if state.len() < NUMBERS {
         return replies::short();
@@ -102,11 +102,10 @@ pub extern "C" fn chant_begin(state: &mut [u32], worker: u32, lock: u32, rec: &[
 }
 
 // One step of a worker's try. Refused: 22, 1, 11, 4.
-#[unsafe(no_mangle)]
-pub extern "C" fn chant_step(state: &mut [u32], worker: u32) -> Reply
+pub fn chant_step(state: &mut [u32], worker: u32) -> Reply
     ensures value { result ≡ step_reply state.old worker }
     ensures state_after { state.new ≡ step_left state.old worker }
-    ensures state_after_2 { numbers ≤ length state.old → unpack state.new ≡ (step_of (unpack state.old) worker).engine }
+    ensures unpacked { numbers ≤ length state.old → unpack state.new ≡ (step_of (unpack state.old) worker).engine }
 {
     if state.len() < NUMBERS {
         return replies::short();
@@ -116,11 +115,10 @@ pub extern "C" fn chant_step(state: &mut [u32], worker: u32) -> Reply
 }
 
 // The answer of a finished worker, its steps and the entries that it was first to fill; the worker is idle. Refused: 22, 1, 11, 3.
-#[unsafe(no_mangle)]
-pub extern "C" fn chant_collect(state: &mut [u32], worker: u32) -> Collected
+pub fn chant_collect(state: &mut [u32], worker: u32) -> Collected
     ensures value { result ≡ collect_reply state.old worker }
     ensures state_after { state.new ≡ collect_left state.old worker }
-    ensures state_after_2 { numbers ≤ length state.old → unpack state.new ≡ (collect_of (unpack state.old) worker).engine }
+    ensures unpacked { numbers ≤ length state.old → unpack state.new ≡ (collect_of (unpack state.old) worker).engine }
 {
     if state.len() < NUMBERS {
         return replies::no_answer(replies::short());
@@ -130,11 +128,10 @@ pub extern "C" fn chant_collect(state: &mut [u32], worker: u32) -> Collected
 }
 
 // The worker is idle; a held lock stays held. Refused: 22, 1, 11.
-#[unsafe(no_mangle)]
-pub extern "C" fn chant_drop(state: &mut [u32], worker: u32) -> Reply
+pub fn chant_drop(state: &mut [u32], worker: u32) -> Reply
     ensures value { result ≡ drop_reply state.old worker }
     ensures state_after { state.new ≡ drop_left state.old worker }
-    ensures state_after_2 { numbers ≤ length state.old → unpack state.new ≡ (drop_of (unpack state.old) worker).engine }
+    ensures unpacked { numbers ≤ length state.old → unpack state.new ≡ (drop_of (unpack state.old) worker).engine }
 {
     if state.len() < NUMBERS {
         return replies::short();
@@ -144,8 +141,7 @@ pub extern "C" fn chant_drop(state: &mut [u32], worker: u32) -> Reply
 }
 
 // A word's value, count and guard. Refused: 22, 16.
-#[unsafe(no_mangle)]
-pub extern "C" fn chant_read_word(state: &[u32], word: u32) -> WordRead
+pub fn chant_read_word(state: &[u32], word: u32) -> WordRead
     ensures { result ≡ word_reply state.now word }
 {
     if state.len() < NUMBERS {
@@ -156,8 +152,7 @@ pub extern "C" fn chant_read_word(state: &[u32], word: u32) -> WordRead
 }
 
 // A lock's turn and the sheet that holds it, if any. Refused: 22, 2.
-#[unsafe(no_mangle)]
-pub extern "C" fn chant_read_lock(state: &[u32], lock: u32) -> LockRead
+pub fn chant_read_lock(state: &[u32], lock: u32) -> LockRead
     ensures { result ≡ lock_reply state.now lock }
 {
     if state.len() < NUMBERS {
@@ -168,8 +163,7 @@ pub extern "C" fn chant_read_lock(state: &[u32], lock: u32) -> LockRead
 }
 
 // The job record of a sheet in use. Refused: 22, 14, 13.
-#[unsafe(no_mangle)]
-pub extern "C" fn chant_show(state: &[u32], sheet: u32, buffer: &mut [u8]) -> Wrote
+pub fn chant_show(state: &[u32], sheet: u32, buffer: &mut [u8]) -> Wrote
     ensures value { result ≡ show_reply state.now sheet buffer.old }
     ensures buffer_after { buffer.new ≡ show_buffer state.now sheet buffer.old }
 {
@@ -181,8 +175,7 @@ pub extern "C" fn chant_show(state: &[u32], sheet: u32, buffer: &mut [u8]) -> Wr
 }
 
 // The setup record of the present values and turns. Refused: 22, 12, 15, 13.
-#[unsafe(no_mangle)]
-pub extern "C" fn chant_park(state: &[u32], buffer: &mut [u8]) -> Wrote
+pub fn chant_park(state: &[u32], buffer: &mut [u8]) -> Wrote
     ensures value { result ≡ park_reply state.now buffer.old }
     ensures buffer_after { buffer.new ≡ park_buffer state.now buffer.old }
 {
@@ -194,14 +187,7 @@ pub extern "C" fn chant_park(state: &[u32], buffer: &mut [u8]) -> Wrote
 }
 
 // The record of a call; step, collect and drop have no lock and no job record. Refused: 17, 5, 6, 13.
-#[unsafe(no_mangle)]
-pub extern "C" fn chant_record(
-    call: u32,
-    worker: u32,
-    lock: u32,
-    rec: &[u8],
-    buffer: &mut [u8],
-) -> Wrote
+pub fn chant_record(call: u32, worker: u32, lock: u32, rec: &[u8], buffer: &mut [u8]) -> Wrote
     ensures value { result ≡ record_reply call worker lock rec.now buffer.old }
     ensures buffer_after { buffer.new ≡ record_buffer call worker lock rec.now buffer.old }
 {
@@ -210,19 +196,17 @@ pub extern "C" fn chant_record(
 }
 
 // A job record run at once on the words' values, with their guards, under any lock number. Refused: 16, 5, 6, 7, 8.
-#[unsafe(no_mangle)]
-pub extern "C" fn chant_plain(values: &mut [u32], guards: &[u8], lock: u32, rec: &[u8]) -> Plain
+pub fn chant_plain(values: &mut [u32], guards: &[u8], lock: u32, rec: &[u8]) -> Plain
     ensures value { result ≡ plain_reply values.old guards.now lock rec.now }
     ensures values_after { values.new ≡ plain_values values.old guards.now lock rec.now }
-    ensures guards_value { guards.now ≡ guards.now }
+    ensures guards_stay { guards.exit.now ≡ guards.entry.now }
 {
     let told = plain::run(values, guards, lock, rec);
     replies::ran(told)
 }
 
 // Where the job record of a number stands in the line book, or else in the factory book. Refused: 18, 19.
-#[unsafe(no_mangle)]
-pub extern "C" fn chant_book_find(line: &[u8], factory: &[u8], number: u32) -> BookFound
+pub fn chant_book_find(line: &[u8], factory: &[u8], number: u32) -> BookFound
     ensures { result ≡ book_find_reply line.now factory.now number }
 {
     let found = book::find(line, factory, number);
@@ -230,8 +214,7 @@ pub extern "C" fn chant_book_find(line: &[u8], factory: &[u8], number: u32) -> B
 }
 
 // A book with one job more, in its place. Refused: 18, 19, 5, 6, 5, 7, 20, 13.
-#[unsafe(no_mangle)]
-pub extern "C" fn chant_book_add(book: &[u8], number: u32, rec: &[u8], buffer: &mut [u8]) -> Wrote
+pub fn chant_book_add(book: &[u8], number: u32, rec: &[u8], buffer: &mut [u8]) -> Wrote
     ensures value { result ≡ book_add_reply book.now number rec.now buffer.old }
     ensures buffer_after { buffer.new ≡ book_add_buffer book.now number rec.now buffer.old }
 {

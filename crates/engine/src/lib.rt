@@ -1,5 +1,7 @@
 // The engine: its whole state, and the nine calls. Every call, with every number and every record, ends in an answer or a
 // refusal; each contract gives the answer, the next state and the lent buffer whole, by a definition of specs/Calls.antt.
+#![tactic(auto)]
+
 ghost use Rattle.std.specs.Prelude.{◌≡◌};
 ghost use Rattle.parts.specs.Numbers.{instructions, try_steps, help_steps};
 ghost use Rattle.parts.specs.Pick.{pick};
@@ -18,13 +20,13 @@ use parts::{
 use steps::{State, Worker};
 
 // Of a sheet: how many instructions its program has, and its done mark. Its program and its log stand in the engine's arrays.
-#[derive(Drop)]
+#[derive(Clone, Copy)]
 pub struct Sheet {
     pub length: u8,
     pub done: bool,
 }
 
-#[derive(Drop)]
+#[derive(Clone, Copy)]
 pub struct Engine {
     pub locks: u8,
     pub words: u8,
@@ -37,7 +39,7 @@ pub struct Engine {
 }
 
 // Where the pieces of a step stand, each in its array.
-#[derive(Drop)]
+#[derive(Clone, Copy)]
 pub struct Places {
     pub worker: usize,
     pub lock: usize,
@@ -48,39 +50,39 @@ pub struct Places {
 }
 
 // What setup, begin, step and drop give: the next state, and whether the call was accepted.
-#[derive(Drop)]
+#[derive(Clone, Copy)]
 pub struct Outcome {
     pub engine: Engine,
     pub told: Told,
 }
 
-#[derive(Drop)]
+#[derive(Clone, Copy)]
 pub enum CollectTold {
     // The answer, the accepted steps since begin, and the log entries that the worker was first to fill.
     Answered(Answer, u32, u32),
     Refused(Refusal),
 }
 
-#[derive(Drop)]
+#[derive(Clone, Copy)]
 pub struct Collected {
     pub engine: Engine,
     pub told: CollectTold,
 }
 
-#[derive(Drop)]
+#[derive(Clone, Copy)]
 pub enum WordTold {
     Is(Word),
     Refused(Refusal),
 }
 
-#[derive(Drop)]
+#[derive(Clone, Copy)]
 pub enum LockTold {
     Is(LockWord),
     Refused(Refusal),
 }
 
 // What the writers tell: how many bytes they wrote.
-#[derive(Drop)]
+#[derive(Clone, Copy)]
 pub enum WriteTold {
     Wrote(usize),
     Refused(Refusal),

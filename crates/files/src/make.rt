@@ -12,14 +12,14 @@ use records::job::JOB_BYTES;
 
 // What a line says after its index: the refusal number (0 if accepted), or the answer, the steps and the entries filled of a
 // collect that is accepted.
-#[derive(Drop)]
+#[derive(Clone, Copy)]
 pub enum Line {
     Number(u32),
     Answer(u32, u32, u32),
 }
 
 // What a call gives: the next state, and its line.
-#[derive(Drop)]
+#[derive(Clone, Copy)]
 pub struct Made {
     pub engine: Engine,
     pub line: Line,

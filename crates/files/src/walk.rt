@@ -47,7 +47,7 @@ fn put_line(out: &mut [u8], at: usize, index: u32, line: Line) -> usize
 }
 
 // What a walk leaves: the state after its last call, and how many bytes of text were put.
-#[derive(Drop)]
+#[derive(Clone, Copy)]
 pub struct Replayed {
     pub engine: Engine,
     pub length: usize,

@@ -88,7 +88,7 @@ module _ (K : Rules) (E : Scene) (T : Tale) (st : ℕ → Status) (o : Ok K E T 
       (λ m n. passed_spared K (view_of E st) (view_of E after) _ _ m (freed_other m n) (o.sheet m)))
       (put_at_lem (λ m (σ : Status). σ.job ≡ (st m).job) st s (over_of (st s)) refl (λ m n. refl))
       (all_but (λ m. SheetOk K (view_of E after) (put E.lock l (free_at t)) m (after m).kind) s
-      (sheet_as K (view_of E after) _ s (over_of (st s)) (put_same st s (over_of (st s))) (
+      (sheet_as K (view_of E after) (put E.lock l (free_at t)) s (over_of (st s)) (put_same st s (over_of (st s))) (
         record { code = held_sheet.0.code; fine = held_sheet.0.fine },
         record {
           said = said;

@@ -62,7 +62,7 @@ module _ (K : Rules) (E : Scene) (T : Tale) (st : ℕ → Status) (o : Ok K E T 
       (put_at_lem (λ m (σ : Status). σ.job ≡ (st m).job) st s (front_of (st s) n) refl (λ m ne. refl))
       (all_but (λ m. SheetOk K anew E.lock m (after m).kind) s
       (let h = sheet_at K E T st o s current cur in
-      sheet_as K anew _ s (front_of (st s) n) (put_same st s (front_of (st s) n)) (
+      sheet_as K anew E.lock s (front_of (st s) n) (put_same st s (front_of (st s) n)) (
         record { code = h.0.code; fine = h.0.fine },
         h.1,
         subst (Inv K (st s).job n) (sym shared_there) inv,

@@ -1,5 +1,7 @@
 // Collect, drop and the two readers, in place on numbers that a caller lends. Collect's and drop's contracts give what is told,
 // the numbers at exit exactly, and the state that they say; a reader's, what is told.
+#![tactic(auto)]
+
 ghost use Rattle.std.specs.Prelude.{◌≡◌, ◌≤◌, ◌<◌, length};
 ghost use Rattle.engine.specs.Calls.{collect_of, drop_of, read_word_of, read_lock_of};
 ghost use Rattle.parts.specs.Numbers.{workers};
@@ -30,7 +32,7 @@ pub fn collect(s: &mut [u32], w: u32) -> CollectTold
     requires { numbers ≤ length s.old }
     ensures value { result ≡ (collect_of (unpack s.old) w).told }
     ensures s_after { s.new ≡ collect_numbers s.old w }
-    ensures s_after_2 { unpack s.new ≡ (collect_of (unpack s.old) w).engine }
+    ensures unpacked { unpack s.new ≡ (collect_of (unpack s.old) w).engine }
 {
     let i = w as usize;
     if WORKERS <= i {
@@ -51,7 +53,7 @@ pub fn drop(s: &mut [u32], w: u32) -> Told
     requires { numbers ≤ length s.old }
     ensures value { result ≡ (drop_of (unpack s.old) w).told }
     ensures s_after { s.new ≡ drop_numbers s.old w }
-    ensures s_after_2 { unpack s.new ≡ (drop_of (unpack s.old) w).engine }
+    ensures unpacked { unpack s.new ≡ (drop_of (unpack s.old) w).engine }
 {
     let i = w as usize;
     if WORKERS <= i {

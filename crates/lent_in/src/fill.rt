@@ -20,7 +20,7 @@ use steps::{Point, State, Worker};
 pub fn filled(s: &mut [u32], rec: &[u8])
     requires { (numbers ≤ length s.old) × Sized rec.now }
     ensures s_after { s.new ≡ filled_numbers s.old rec.now }
-    ensures s_after_2 { unpack s.new ≡ filled_of (unpack s.old) rec.now }
+    ensures unpacked { unpack s.new ≡ filled_of (unpack s.old) rec.now }
 {
     let n = wide(rec[5]);
     let values = 6 + n;
@@ -34,7 +34,7 @@ pub fn filled(s: &mut [u32], rec: &[u8])
 fn copied(s: &mut [u32], rec: &[u8], sheet: usize)
     requires { (numbers ≤ length s.old) × (sheet < sheets) × (8 ≤ length rec.now) × (length rec.now ≤ 4 + 4 * instructions) }
     ensures s_after { s.new ≡ copied_numbers s.old rec.now sheet }
-    ensures s_after_2 { unpack s.new ≡ copied_of (unpack s.old) rec.now sheet }
+    ensures unpacked { unpack s.new ≡ copied_of (unpack s.old) rec.now sheet }
 {
     let base = sheet * INSTRUCTIONS;
     laid::no_program(s, base);
@@ -60,7 +60,7 @@ fn looking(lock: u8, sheet: u8) -> Worker
 fn begun(s: &mut [u32], w: usize, lock: u8, rec: &[u8], sheet: u8)
     requires { (numbers ≤ length s.old) × (w < workers) × (sheet < sheets) × (8 ≤ length rec.now) × (length rec.now ≤ 4 + 4 * instructions) × (begin_by_state (worker_at (unpack s.old) w) ≡ Accepted) }
     ensures s_after { s.new ≡ begun_numbers s.old w lock rec.now sheet }
-    ensures s_after_2 { unpack s.new ≡ begun_of (unpack s.old) w lock rec.now sheet }
+    ensures unpacked { unpack s.new ≡ begun_of (unpack s.old) w lock rec.now sheet }
 {
     let at = sheet as usize;
     copied(s, rec, at);
@@ -77,7 +77,7 @@ fn begun(s: &mut [u32], w: usize, lock: u8, rec: &[u8], sheet: u8)
 pub fn taken(s: &mut [u32], w: u32, lock: u32, rec: &[u8], sheet: u8)
     requires { (numbers ≤ length s.old) × Begins (unpack s.old) w lock rec.now × (sheet < sheets) }
     ensures s_after { s.new ≡ begun_numbers s.old w lock rec.now sheet }
-    ensures s_after_2 { unpack s.new ≡ begun_of (unpack s.old) w lock rec.now sheet }
+    ensures unpacked { unpack s.new ≡ begun_of (unpack s.old) w lock rec.now sheet }
 {
     begun(s, w as usize, lock as u8, rec, sheet);
 }

@@ -1,5 +1,7 @@
 // Setup and begin on numbers that a caller lends. Each contract gives what is told, the numbers exactly, and the state that they
 // say: what is told and the state are the by-value call's, on the state that the numbers said.
+#![tactic(auto)]
+
 ghost use Rattle.std.specs.Prelude.{◌≡◌, ◌≤◌, length};
 ghost use Rattle.engine.specs.Calls.{setup_of, begin_of};
 ghost use Rattle.cells.specs.Layout.{numbers, unpack};
@@ -16,7 +18,7 @@ pub fn setup(s: &mut [u32], rec: &[u8]) -> Told
     requires { numbers ≤ length s.old }
     ensures value { result ≡ (setup_of rec.now).told }
     ensures s_after { s.new ≡ setup_numbers s.old rec.now }
-    ensures s_after_2 { unpack s.new ≡ (setup_of rec.now).engine }
+    ensures unpacked { unpack s.new ≡ (setup_of rec.now).engine }
 {
     cells::blank(s);
     let told = records::setup::setup_told(rec);
@@ -34,7 +36,7 @@ pub fn begin(s: &mut [u32], w: u32, lock: u32, rec: &[u8]) -> Told
     requires { numbers ≤ length s.old }
     ensures value { result ≡ (begin_of (unpack s.old) w lock rec.now).told }
     ensures s_after { s.new ≡ begin_numbers s.old w lock rec.now }
-    ensures s_after_2 { unpack s.new ≡ (begin_of (unpack s.old) w lock rec.now).engine }
+    ensures unpacked { unpack s.new ≡ (begin_of (unpack s.old) w lock rec.now).engine }
 {
     let told = check::begin_told(s, w, lock, rec);
     match told {

@@ -1,5 +1,7 @@
 // Show and park of a state that the caller lends as numbers: they read it, and fill the first bytes of a lent buffer as the
 // by-value calls do.
+#![tactic(auto)]
+
 ghost use Rattle.std.specs.Prelude.{◌≡◌, ◌<◌, ◌≤◌, ◌+◌, ◌*◌, length, take, drop};
 ghost use Rattle.parts.specs.Lay.{lay};
 ghost use Rattle.parts.specs.Numbers.{sheets, instructions, entries, most_locks, most_words};

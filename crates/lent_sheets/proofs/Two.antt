@@ -4,11 +4,9 @@ use mathlib.Core.List.{List}
 use mathlib.Core.Path.{◌≡◌, refl, ◌∙◌, sym, ap}
 use native.Mathlib.Omega.{arith}
 use Rattle.parts.specs.Numbers.{workers}
-use Rattle.parts.specs.declared.Holder.{Holder}
 use Rattle.sheets.specs.Marks.{sheet_marks, holder_marks, worker_marks}
 use Rattle.steps.specs.Places.{helped_of}
 use Rattle.steps.specs.Worker.{on_state}
-use Rattle.steps.specs.declared.Worker.{Worker}
 use Rattle.engine.specs.State.{worker_at}
 use Rattle.cells.specs.Codes.{state_in, byte_of, at_tag, at_own, idle_tag, release_tag}
 use Rattle.cells.specs.Layout.{unpack, row_of, number_at}

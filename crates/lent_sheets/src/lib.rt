@@ -1,5 +1,7 @@
 // Which sheets are in use in lent numbers, and the free one with the lowest number: sheets' marks, set from the numbers in place. Of a worker
 // only its tag and its two sheets are read.
+#![tactic(auto)]
+
 ghost use Rattle.std.specs.Prelude.{◌≡◌, ◌<◌, ◌≤◌, length};
 ghost use Rattle.parts.specs.Numbers.{workers, sheets};
 ghost use Rattle.sheets.specs.Marks.{lock_marks, worker_marks, all_mark, marks_of};

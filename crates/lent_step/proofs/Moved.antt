@@ -19,7 +19,7 @@ use Rattle.steps.specs.declared.State.TheVariants.{UnderWay, Finished}
 use Rattle.steps.specs.declared.Worker.{Worker}
 use Rattle.engine.specs.State.{worker_at, with_worker}
 use Rattle.engine.specs.declared.Engine.{Engine}
-use Rattle.cells.specs.Codes.{byte_of, flag_of, flag_number, lock_word_of, holder_number, answer_in, state_in, HolderFits, at_tag, at_lock, at_own, at_steps, at_sheet, at_turn, at_next, at_place, at_register, at_value, at_count, at_new, at_filled, grab_tag, look_again_tag, read_mark_tag, read_tag, mark_tag, swap_tag, release_tag, finished_tag}
+use Rattle.cells.specs.Codes.{byte_of, flag_number, holder_number, state_in, HolderFits, at_tag, at_lock, at_own, at_steps, at_sheet, at_turn, at_next, at_place, at_register, at_value, at_count, at_new, at_filled, grab_tag, look_again_tag, read_mark_tag, read_tag, mark_tag, swap_tag, release_tag, finished_tag}
 use Rattle.cells.specs.Layout.{numbers, worker_used, worker_part, unpack, row_of, number_at, run_now, put_number}
 use Rattle.cells.proofs.Back.{byte_back, flag_back, answer_back, lock_back}
 use Rattle.cells.proofs.Pieces.{pieces_length}

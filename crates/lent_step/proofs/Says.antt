@@ -1,9 +1,9 @@
 -- The numbers that a step leaves say the state of the step by value: by the definitions alone, of any numbers that are enough for a
 -- state.
-use Rattle.std.proofs.Common.{◌≡◌, ℕ, ◌+◌, ◌-◌, ◌*◌, ◌%◌, ◌^◌, ◌<◌, ◌≤◌, Bool, true, false, eqb, leb, List, length, get_or, set, sym, refl, ap, ◌∙◌, subst, arith, leb-false}
+use Rattle.std.proofs.Common.{◌≡◌, ℕ, ◌+◌, ◌-◌, ◌%◌, ◌<◌, ◌≤◌, Bool, true, false, eqb, leb, List, length, get_or, sym, refl, ap, ◌∙◌, subst, arith, leb-false}
 use borrow.Author.Tests.{lt-leb}
 use lib.Seq.{set-get_or}
-use Rattle.parts.specs.Instr.{asks_of, follows_of, on_asks, on_follows, set_of, add_of, sub_of, over_of}
+use Rattle.parts.specs.Instr.{asks_of, follows_of, on_asks, on_follows}
 use Rattle.parts.specs.Numbers.{workers, most_locks, most_words, sheets, last_turn}
 use Rattle.parts.specs.Parts as parts
 use Rattle.parts.specs.Parts.{entry0, lock0, word0, next32, reading_of, committed_of, holds_of, is_first, register_of}
@@ -42,7 +42,7 @@ use Rattle.engine.specs.Step.{places_of, view_at, put_at, stepped_of}
 use Rattle.engine.specs.declared.Engine.{Engine}
 use Rattle.engine.specs.declared.Sheet.{Sheet}
 use Rattle.cells.specs.Codes.{holder_of, state_in, HolderFits, at_tag, at_sheet, at_turn, at_new, idle_tag, look_tag, grab_tag, look_again_tag, read_mark_tag, read_tag, commit_tag, swap_tag, mark_tag, release_tag}
-use Rattle.cells.specs.Layout.{numbers, lock_part, word_part, sheet_part, entry_part, unpack, row_of, number_at, run_now, read_now, seen_now, put_lock, put_word, put_sheet, put_entry}
+use Rattle.cells.specs.Layout.{numbers, lock_part, word_part, sheet_part, entry_part, unpack, row_of, number_at, run_now, read_now, seen_now}
 use Rattle.cells.specs.Pieces.{Part, place_of, put_piece}
 use Rattle.cells.specs.State.{with_lock, with_word, with_sheet, with_entry}
 use Rattle.cells.proofs.Back.{lock_back, word_back, sheet_back, entry_back}
@@ -50,7 +50,7 @@ use Rattle.cells.proofs.Pieces.{length-put, pieces_get}
 use Rattle.cells.proofs.Row.{worker_is}
 use Rattle.cells.proofs.Unpack.{Says, Puts, unpack_lock, unpack_word, unpack_sheet, unpack_entry}
 use Rattle.lent_moves.specs.Moves.{to_grab, started, finished}
-use Rattle.lent_moves.specs.Looks.{own_now, lock_place, lock_now, said_now, registers_now, instr_now, word_place, word_now, entry_place, entry_now, sheet_now, answer_now, sum_now, difference_now}
+use Rattle.lent_moves.specs.Looks.{own_now, lock_place, lock_now, said_now, registers_now, instr_now, word_place, word_now, entry_place, entry_now, sheet_now, answer_now}
 use Rattle.lent_step.specs.Points.{looked, look_numbers, grab_numbers, look_again_numbers, started_own, started_seen, mark_read, read_mark_numbers, first_numbers, read_numbers, follow_numbers, entry_filled, committed, commit_numbers, swap_numbers, mark_numbers, release_numbers, onward_numbers, step_numbers}
 use Rattle.lent_step.proofs.Moved.{Moved, moved_grab, moved_again, moved_seen, moved_start, moved_pass, moved_go, moved_halt, moved_touch, moved_log, moved_load, moved_store, moved_release, moved_finish, moved_count}
 use Rattle.lent_step.proofs.Put.{put_alone, put_lock_lem, put_word_lem, put_entry_lem, put_done}

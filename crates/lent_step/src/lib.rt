@@ -1,4 +1,6 @@
 // Step, in place on numbers that a caller lends: by the worker's tag, straight to the numbers that the point looks at and changes.
+#![tactic(auto)]
+
 ghost use Rattle.std.specs.Prelude.{◌≡◌, ◌≤◌, length};
 ghost use Rattle.engine.specs.Calls.{step_of};
 ghost use Rattle.cells.specs.Layout.{numbers, unpack};
@@ -14,7 +16,7 @@ pub fn step(s: &mut [u32], w: u32) -> Told
     requires { numbers ≤ length s.old }
     ensures value { result ≡ (step_of (unpack s.old) w).told }
     ensures s_after { s.new ≡ step_numbers s.old w }
-    ensures s_after_2 { unpack s.new ≡ (step_of (unpack s.old) w).engine }
+    ensures unpacked { unpack s.new ≡ (step_of (unpack s.old) w).engine }
 {
     let i = w as usize;
     if WORKERS <= i {

@@ -1,5 +1,7 @@
 // The numbers of the engine and its small values, with what is done to one of them alone.
 // Each contract gives the result whole, by a definition of specs/ that has the function's name.
+#![tactic(auto)]
+
 ghost use Rattle.std.specs.Prelude.{◌≡◌};
 ghost use Rattle.parts.specs.Told.{answer_number, refusal_number, refusal_place};
 ghost use Rattle.parts.specs.Instr.{set_of, add_of, sub_of, over_of, word_of, asks_of, follows_of};
@@ -25,7 +27,7 @@ pub const LAST_TURN: u32 = 67108864;
 
 // What a finished try answers. Not taken says that its job was not run, no more; worn says that too, and that its Look found its lock
 // free at the last turn.
-#[derive(Drop)]
+#[derive(Clone, Copy)]
 pub enum Answer {
     RanYes,
     RanNo,
@@ -34,7 +36,7 @@ pub enum Answer {
 }
 
 // Why a call is refused, in the order of their numbers, of which 10 is none's; a case that has a place other than 0 holds it.
-#[derive(Drop)]
+#[derive(Clone, Copy)]
 pub enum Refusal {
     NoWorker,
     NoLock,
@@ -58,14 +60,14 @@ pub enum Refusal {
 }
 
 // What a call tells that has no more to tell than whether it was accepted.
-#[derive(Drop)]
+#[derive(Clone, Copy)]
 pub enum Told {
     Accepted,
     Refused(Refusal),
 }
 
 // One instruction of a job.
-#[derive(Drop)]
+#[derive(Clone, Copy)]
 pub struct Instr {
     pub op: u8,
     pub a: u8,
@@ -73,7 +75,7 @@ pub struct Instr {
     pub c: u8,
 }
 
-#[derive(Drop)]
+#[derive(Clone, Copy)]
 pub struct Registers {
     pub r0: u32,
     pub r1: u32,
@@ -83,7 +85,7 @@ pub struct Registers {
 
 // What the first step of an instruction finds: the job's answer; the registers after it and how many instructions are passed
 // over; or the word that it reads.
-#[derive(Drop)]
+#[derive(Clone, Copy)]
 pub enum Asks {
     Halt(bool),
     Go(Registers, u8),
@@ -91,44 +93,44 @@ pub enum Asks {
 }
 
 // What follows for a load, a store or a cam once its word's value is known: the registers after it, or the word's new value.
-#[derive(Drop)]
+#[derive(Clone, Copy)]
 pub enum Follows {
     Done(Registers),
     Swap(u32),
 }
 
 // The value and the count that were read of a word.
-#[derive(Drop)]
+#[derive(Clone, Copy)]
 pub struct Reading {
     pub value: u32,
     pub count: u32,
 }
 
-#[derive(Drop)]
+#[derive(Clone, Copy)]
 pub struct Word {
     pub value: u32,
     pub count: u32,
     pub guard: u8,
 }
 
-#[derive(Drop)]
+#[derive(Clone, Copy)]
 pub enum Fill {
     Empty,
     Filled(Reading),
 }
 
-#[derive(Drop)]
+#[derive(Clone, Copy)]
 pub struct Entry {
     pub fill: Fill,
 }
 
-#[derive(Drop)]
+#[derive(Clone, Copy)]
 pub enum Holder {
     Free,
     By(u8),
 }
 
-#[derive(Drop)]
+#[derive(Clone, Copy)]
 pub struct LockWord {
     pub turn: u32,
     pub holder: Holder,

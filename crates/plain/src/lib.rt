@@ -1,5 +1,7 @@
 // The plain engine of the bench: a job record run at once on two lent tables, the words' values and their guards, under any lock number. Only
 // values are written. The job runs by `alone`, which calls itself on what remains of the program after each instruction.
+#![tactic(auto)]
+
 ghost use Rattle.std.specs.Prelude.{◌≡◌, ◌≤◌, length};
 ghost use Rattle.records.specs.Job.{job_of};
 ghost use Rattle.alone.specs.Alone.{alone_of};
@@ -8,7 +10,7 @@ ghost use Rattle.plain.specs.Plain.{plain_told, ran_told, plain_of, plain_left};
 use parts::{Refusal, Told, WORDS};
 
 // The job's answer and how many instructions it executed, or why it was not run.
-#[derive(Drop)]
+#[derive(Clone, Copy)]
 pub enum PlainTold {
     Ran(bool, usize),
     Refused(Refusal),
@@ -41,7 +43,7 @@ fn ran(values: &mut [u32], rec: &[u8]) -> PlainTold
 pub fn run(values: &mut [u32], guards: &[u8], lock: u32, rec: &[u8]) -> PlainTold
     ensures value { result ≡ plain_of values.old guards.now lock rec.now }
     ensures values_after { values.new ≡ plain_left values.old guards.now lock rec.now }
-    ensures guards_value { guards.now ≡ guards.now }
+    ensures guards_stay { guards.exit.now ≡ guards.entry.now }
 {
     let told = told(values, guards, lock, rec);
     match told {

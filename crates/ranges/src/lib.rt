@@ -1,1 +1,2 @@
 // The ranges of every state that the calls gave. No code.
+#![tactic(auto)]

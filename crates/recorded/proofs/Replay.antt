@@ -1,5 +1,5 @@
 -- A file's records are walked as their calls are made directly, whatever follows them.
-use Prim.Native.Nat.{ℕ, zero, suc, ◌+◌, ◌≤◌, ◌<◌}
+use Prim.Native.Nat.{ℕ, zero, suc, ◌+◌, ◌≤◌}
 use mathlib.Core.Path.{◌≡◌, refl, ◌∙◌, sym, ap, ap₂}
 use mathlib.Core.Bool.{Bool, true, false}
 use mathlib.Core.List.{List, [], ◌∷◌, ◌++◌, append_assoc, append-nil}
@@ -8,7 +8,6 @@ use lib.ListN.{length, take, drop, length-drop, length-append, take-append-drop}
 use lib.Seq.{take-append_seam, drop-append_seam}
 use borrow.Author.Tests.{le-ltb}
 use Rattle.parts.specs.Pick.{pick}
-use Rattle.parts.specs.declared.Refusal.{Refusal}
 use Rattle.parts.specs.declared.Told.{Told}
 use Rattle.parts.specs.declared.Told.TheVariants.{Accepted, Refused}
 use Rattle.records.specs.Bytes.{AllBytes, length_field, length_told}

@@ -1,1 +1,2 @@
 // No code: what is promised of recorded calls, and its proof.
+#![tactic(auto)]

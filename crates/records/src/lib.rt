@@ -1,5 +1,7 @@
 // Records: the refusal and place of every byte string, and the bytes of what is written.
 // Each contract gives the result whole, by a definition of specs/.
+#![tactic(auto)]
+
 ghost use Rattle.std.specs.Prelude.{◌≡◌, ◌+◌, ◌<◌, ◌≤◌, [], ◌∷◌, length};
 ghost use Rattle.parts.specs.Lay.{lay};
 ghost use Rattle.records.specs.Bytes.{u16_of, u32_of, u32_at, length_field, length_told, kind_field, header, u32s_bytes};

@@ -1,1 +1,2 @@
 // Each refusal exactly when, and what a refused call leaves. No code.
+#![tactic(auto)]

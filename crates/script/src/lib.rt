@@ -1,4 +1,6 @@
 // What a line of the script is: words separated by single spaces, of which the first names the call.
+#![tactic(auto)]
+
 ghost use Rattle.std.specs.Prelude.{◌≡◌, ◌≤◌, ◌/◌, min, length, take};
 ghost use Rattle.text.specs.Text.{most_bytes};
 ghost use Rattle.script.specs.Line.{first_at, past_of, before_of, after_of, with_digit, digits_from, number_of, pair_of, hex_digit, all_hex};
@@ -49,21 +51,21 @@ pub fn after(s: &[u8], x: u8) -> &[u8]
 }
 
 // A word of the script as a number.
-#[derive(Drop)]
+#[derive(Clone, Copy)]
 pub enum Number {
     Is(u32),
     Not,
 }
 
 // Two numbers.
-#[derive(Drop)]
+#[derive(Clone, Copy)]
 pub enum Pair {
     Is(u32, u32),
     Not,
 }
 
 // The call that a line's first word names.
-#[derive(Drop)]
+#[derive(Clone, Copy)]
 pub enum Verb {
     Setup,
     Begin,
@@ -78,7 +80,7 @@ pub enum Verb {
 }
 
 // A call with its numbers. The record of a setup or a begin is the line's last word.
-#[derive(Drop)]
+#[derive(Clone, Copy)]
 pub enum Call {
     Setup,
     Begin(u32, u32),
@@ -91,7 +93,7 @@ pub enum Call {
     Park(u32),
 }
 
-#[derive(Drop)]
+#[derive(Clone, Copy)]
 pub enum Line {
     Passed,
     Makes(Call),
@@ -247,7 +249,7 @@ fn byte_of(high: u8, low: u8) -> u8
 }
 
 // A record's bytes, and how many there are.
-#[derive(Drop)]
+#[derive(Clone, Copy)]
 pub struct Record {
     pub bytes: [u8; 512],
     pub length: usize,

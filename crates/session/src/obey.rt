@@ -10,7 +10,7 @@ use parts::{Holder, Told};
 use script::{Call, after, record_of};
 
 // What a call gives: the next state, whether it was accepted, what else it told, and the bytes that a writer was lent.
-#[derive(Drop)]
+#[derive(Clone, Copy)]
 pub struct Reply {
     pub engine: Engine,
     pub told: Told,

@@ -7,7 +7,7 @@ use parts::{Holder, Told};
 use text::{put, put_bytes, put_decimal, put_lock, put_number, put_three, put_told, put_two};
 
 // What a call tells after its refusal and place.
-#[derive(Drop)]
+#[derive(Clone, Copy)]
 pub enum Tail {
     Nothing,
     Steps(u32),

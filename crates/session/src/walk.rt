@@ -8,7 +8,7 @@ use engine::Engine;
 use script::{Call, Line, before, line_of};
 
 // What a line gave: the next state, how many bytes of text, and whether it ended the run.
-#[derive(Drop)]
+#[derive(Clone, Copy)]
 pub struct Said {
     pub engine: Engine,
     pub length: usize,

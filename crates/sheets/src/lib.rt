@@ -1,4 +1,6 @@
 // Which sheets are in use, by one number with a binary digit for each sheet, and the free one with the lowest number.
+#![tactic(auto)]
+
 ghost use Rattle.std.specs.Prelude.{◌<◌, ◌-◌, ◌≡◌};
 ghost use Rattle.parts.specs.Numbers.{sheets};
 ghost use Rattle.sheets.specs.Sheets.{in_use_of, free_sheet_of, lowest_of};

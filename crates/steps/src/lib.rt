@@ -1,5 +1,7 @@
 // The worker, and one step of its try on the pieces that a step can touch: the worker, its lock word, one word, one log entry,
 // one instruction, one done mark. Each contract gives the result whole, by a definition of specs/.
+#![tactic(auto)]
+
 ghost use Rattle.std.specs.Prelude.{◌≡◌};
 ghost use Rattle.steps.specs.Places.{run_spot, spot_of, helped_of};
 ghost use Rattle.steps.specs.Worker.{worker0, began_of, collected_of, dropped_of, begin_by_state, moved_of, counted_of};
@@ -9,7 +11,7 @@ pub mod trying;
 use parts::{Answer, Entry, Holder, Instr, LockWord, Reading, Refusal, Registers, Told, Word};
 
 // A run of a sheet: the turn under which it won its lock, the next instruction, the log place, the registers.
-#[derive(Drop)]
+#[derive(Clone, Copy)]
 pub struct Run {
     pub sheet: u8,
     pub won: u32,
@@ -19,7 +21,7 @@ pub struct Run {
 }
 
 // The points of a try, in document 01's order; each holds what the worker remembers there.
-#[derive(Drop)]
+#[derive(Clone, Copy)]
 pub enum Point {
     Look,
     // The turn at which Look found the lock free.
@@ -33,7 +35,7 @@ pub enum Point {
 }
 
 // Where a run stands.
-#[derive(Drop)]
+#[derive(Clone, Copy)]
 pub enum Stage {
     // The first step of the next instruction.
     Read,
@@ -45,7 +47,7 @@ pub enum Stage {
     Release(bool),
 }
 
-#[derive(Drop)]
+#[derive(Clone, Copy)]
 pub enum State {
     Idle,
     UnderWay(Point),
@@ -54,7 +56,7 @@ pub enum State {
 
 // `lock`, `own` (the own sheet), `steps` (the accepted steps since begin) and `filled` (the log entries that it was first to fill)
 // belong to the try; they are 0 where there is none.
-#[derive(Drop)]
+#[derive(Clone, Copy)]
 pub struct Worker {
     pub state: State,
     pub lock: u8,
@@ -65,14 +67,14 @@ pub struct Worker {
 
 // Where a step of a worker is: the sheet whose instruction, log entry and done mark it can touch, the instruction's number and
 // the log place.
-#[derive(Drop)]
+#[derive(Clone, Copy)]
 pub struct Spot {
     pub sheet: u8,
     pub next: u8,
     pub place: u8,
 }
 
-#[derive(Drop)]
+#[derive(Clone, Copy)]
 pub struct View {
     pub worker: Worker,
     pub lock: LockWord,

@@ -1,1 +1,2 @@
 // The example table, and the eight instructions worked. No code.
+#![tactic(auto)]

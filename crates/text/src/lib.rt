@@ -1,5 +1,7 @@
 // Numbers in decimal, bytes in hexadecimal, and what a call told, as text. Each writer puts its text into a lent buffer from a place
 // on and gives the place after it.
+#![tactic(auto)]
+
 ghost use Rattle.std.specs.Prelude.{◌≡◌, ◌+◌, ◌*◌, ◌≤◌, ◌<◌, [], ◌∷◌, ◌++◌, length};
 ghost use Rattle.text.specs.Text.{Puts, most_bytes, decimal_from, decimal_of, number_text, pair_text, three_text, glyph_of, hex_text, bytes_text};
 ghost use Rattle.text.specs.Text.{refusal_text, told_text, holder_text};

@@ -13,4 +13,4 @@ put_spec =
     (λ c. search rules)
     (λ c. search rules)
     (λ c. search rules)
-    (λ c. sym (set_out _ _ _ c.if1.false)))
+    (λ c. sym (set_out _ _ _ c.if-at-words.false)))

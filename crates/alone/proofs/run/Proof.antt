@@ -12,5 +12,5 @@ run_spec =
     (λ c κs. search rules)
     (λ c. search rules)
     (λ c.
-    let e = c.before.before.go_on.ensures in
+    let e = c.go_on.ensures in
     (ap (λ (l : Left). l.yes) e, (ap (λ (l : Left). l.executed) e, ap (λ (l : Left). l.words) e))))

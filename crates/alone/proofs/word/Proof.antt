@@ -12,4 +12,4 @@ word_spec =
     (λ c. search rules)
     (λ c. search rules)
     (λ c. search rules)
-    (λ c. sym (get_or-eq_default c.before.args.words.now 0 c.if1.false)))
+    (λ c. sym (get_or-eq_default c.args.words.now 0 c.if-at-words.false)))

@@ -12,7 +12,7 @@ use Rattle.parts.specs.declared.Told.TheVariants.{Accepted, Refused}
 use Rattle.records.specs.Bytes.{AllBytes}
 use Rattle.book.specs.Formed.{formed_told}
 use Rattle.book.specs.Book.{book_told, place_of, found_in, nowhere, in_books, find_of, part_of, lookup_of}
-use Rattle.book.specs.Books.{HoldsAt, HasNot, LooksUp}
+use Rattle.book.specs.Books.{Holds, HasNot, LooksUp}
 use Rattle.book.specs.declared.Found.{Found}
 use Rattle.book.proofs.Theory.Entries.{job_size}
 use Rattle.book.proofs.Theory.Passing.{refused_so}
@@ -43,7 +43,6 @@ module _ (line factory : List ℕ) (number : ℕ) where
         book = λ a. not_both a t;
         in_line = λ a b. not_both a t;
         in_factory = λ a b. not_both a t;
-        size = λ a. not_both a t;
         not_there = λ a. h (let q : Refused r ≡ Refused NotThere = sym t ∙ a in cc);
         only_then = λ a b c d. t ∙ ap Refused (k a b);
         empty = λ q a. looked (nowhere book r) e;
@@ -63,14 +62,13 @@ module _ (line factory : List ℕ) (number : ℕ) where
   -- a job is found, whose record is the part
   module _ (rec : List ℕ) (f : formed_told rec ≡ Accepted) (told : found.told ≡ Accepted) (part : lookup_of line factory number ≡ rec) where
     found_in_lem :
-        (found.book ≡ 1) ⊎ (found.book ≡ 2) → (found.book ≡ 1 → HoldsAt line number rec found.from) →
-        (found.book ≡ 2 → HoldsAt factory number rec found.from × HasNot line number) → found.length ≡ length rec →
+        (found.book ≡ 1) ⊎ (found.book ≡ 2) → (found.book ≡ 1 → Holds line number rec) →
+        (found.book ≡ 2 → Holds factory number rec × HasNot line number) →
         (HasNot line number → HasNot factory number → ⊥) → LooksUp line factory number
-    found_in_lem which a b size c = record {
+    found_in_lem which a b c = record {
       book = λ h. which;
-      in_line = λ h k. subst (λ (s : List ℕ). HoldsAt line number s found.from) (sym part) (a k);
-      in_factory = λ h k. (subst (λ (s : List ℕ). HoldsAt factory number s found.from) (sym part) (b k).0, (b k).1);
-      size = λ h. size ∙ ap length (sym part);
+      in_line = λ h k. subst (λ (s : List ℕ). Holds line number s) (sym part) (a k);
+      in_factory = λ h k. (subst (λ (s : List ℕ). Holds factory number s) (sym part) (b k).0, (b k).1);
       not_there = λ h. not_both told h;
       only_then = λ h k l m. absurd (c l m);
       empty = λ r h. not_both told h;
@@ -87,18 +85,14 @@ module _ (line factory : List ℕ) (number : ℕ) where
 
     -- by what each of them comes to
     both_good : Seek line number → Seek factory number → LooksUp line factory number
-    both_good (there rec t p z h f) s =
+    both_good (there rec t p h f) s =
         let e : found ≡ found_in 1 (place_of line number) = in_books_lem ∙ simp t in
         let one = ap (λ (f : Found). f.book) e in
-        let at = subst (HoldsAt line number rec) (sym (ap (λ (f : Found). f.from) e)) h in
-        found_in_lem rec f (ap (λ (f : Found). f.told) e) (looked _ e ∙ p) (inl one) (λ k. at) (λ k. absurd (omega arith))
-        (ap (λ (f : Found). f.length) e ∙ z) (λ k l. k rec h.holds)
-    both_good (gone t n) (there rec u p z h f) =
+        found_in_lem rec f (ap (λ (f : Found). f.told) e) (looked _ e ∙ p) (inl one) (λ k. h) (λ k. absurd (omega arith)) (λ k l. k rec h)
+    both_good (gone t n) (there rec u p h f) =
         let e : found ≡ found_in 2 (place_of factory number) = in_books_lem ∙ simp (t, u) in
         let two = ap (λ (f : Found). f.book) e in
-        let at = subst (HoldsAt factory number rec) (sym (ap (λ (f : Found). f.from) e)) h in
-        found_in_lem rec f (ap (λ (f : Found). f.told) e) (looked _ e ∙ p) (inr two) (λ k. absurd (omega arith)) (λ k. (at, n))
-        (ap (λ (f : Found). f.length) e ∙ z) (λ k l. l rec h.holds)
+        found_in_lem rec f (ap (λ (f : Found). f.told) e) (looked _ e ∙ p) (inr two) (λ k. absurd (omega arith)) (λ k. (h, n)) (λ k l. l rec h)
     both_good (gone t n) (gone u m) =
         let e : found ≡ nowhere 0 NotThere = in_books_lem ∙ simp (t, u) in
         refused 0 NotThere e (λ q. (a, b, n, m)) (λ q s. refl)

@@ -42,7 +42,7 @@ module _ (book : List ℕ) (number : ℕ) (rec buf : List ℕ) (b : AllBytes boo
     present job h = go (seek book number b g)
       where
         go : Seek book number → add_told book number rec (length buf) ≡ Refused Present
-        go (there job t p z q r) = simp (g, le-ltb last_number number k, f, t)
+        go (there job t p q r) = simp (g, le-ltb last_number number k, f, t)
         go (gone t n) = absurd (n job h)
 
     module _ (n : HasNot book number) where
@@ -50,7 +50,7 @@ module _ (book : List ℕ) (number : ℕ) (rec buf : List ℕ) (b : AllBytes boo
       absent = go (seek book number b g)
         where
           go : Seek book number → is_there (place_of book number) ≡ false
-          go (there job t p z q r) = absurd (n job q.holds)
+          go (there job t p q r) = absurd (n job q)
           go (gone t m) = t
 
       short : length buf < length book + (head_bytes + length rec) → add_told book number rec (length buf) ≡ Refused Buffer

@@ -17,7 +17,6 @@ use Rattle.records.specs.Bytes.{AllBytes, length_field, kind_field}
 use Rattle.book.specs.Formed.{formed_told}
 use Rattle.book.specs.Book.{entry_kind, head_bytes, number_field, job_part, refuses, bad_head, bad_entry, book_from, book_told}
 use Rattle.book.specs.Add.{entry_bytes}
-use Rattle.book.proofs.Laws.{head_good}
 use Rattle.book.proofs.Theory.Entries.{Entry, entry_of, book_bytes, Rises}
 use Rattle.book.proofs.Theory.Passing.{book_front}
 
@@ -30,12 +29,12 @@ rises_good at low (e ∷ es) (l, f, h) =
     rises_good (at + (head_bytes + length e.job)) (e.number + 1) es h
 
 -- the entry at the front of a list of bytes, with nothing wrong in it
-pub record Front (low : ℕ) (s : List ℕ) : Type 0 where
-  pub entry : Entry
-  pub rest : List ℕ
-  pub is : s ≡ entry_of entry ++ rest
-  pub above : low ≤ entry.number
-  pub formed : formed_told entry.job ≡ Accepted
+record Front (low : ℕ) (s : List ℕ) : Type 0 where
+  entry : Entry
+  rest : List ℕ
+  is : s ≡ entry_of entry ++ rest
+  above : low ≤ entry.number
+  formed : formed_told entry.job ≡ Accepted
 
 -- what is not refused is accepted
 accepts : (t : Told) → refuses t ≡ false → t ≡ Accepted
@@ -82,21 +81,27 @@ fields_are s b h k l e =
     cc
 
 -- what a good entry says of the bytes
-pub front_of : (low : ℕ) (s : List ℕ) → AllBytes s → bad_entry low s ≡ false → Front low s
+front_of : (low : ℕ) (s : List ℕ) → AllBytes s → bad_entry low s ≡ false → Front low s
 unfolding bad_entry
 front_of low s b h =
     let a = neither (bad_head low s) (refuses (formed_told (job_part s))) h in
-    let head = head_good low s a.0 in
+    let three = kind_field s isnt entry_kind or ltb (number_field s) low in
+    let two = ltb (length s) (length_field s) or three in
+    let c = neither (ltb (length s) head_bytes) (ltb (length_field s) head_bytes or two) a.0 in
+    let d = neither (ltb (length_field s) head_bytes) two c.1 in
+    let e = neither (ltb (length s) (length_field s)) three d.1 in
+    let f = neither (kind_field s isnt entry_kind) (ltb (number_field s) low) e.1 in
     record {
       entry = record { number = number_field s; job = job_part s };
       rest = drop (length_field s - head_bytes) (drop head_bytes s);
-      is = fields_are s b head.six head.size head.whole head.kind;
-      above = head.number;
+      is =
+          fields_are s b (ltb-false _ _ c.0) (ltb-false _ _ d.0) (ltb-false _ _ e.0) (not_isnt (kind_field s) entry_kind f.0);
+      above = ltb-false _ _ f.1;
       formed = accepts (formed_told (job_part s)) a.1;
     }
 
 -- the first entry of a good book
-pub good_front : (at low b : ℕ) (s : List ℕ) → AllBytes (b ∷ s) → book_from 0 at low (b ∷ s) ≡ Accepted → Front low (b ∷ s)
+good_front : (at low b : ℕ) (s : List ℕ) → AllBytes (b ∷ s) → book_from 0 at low (b ∷ s) ≡ Accepted → Front low (b ∷ s)
 unfolding book_from
 good_front at low b s h k = go (bad_entry low (b ∷ s)) _ refl k
   where

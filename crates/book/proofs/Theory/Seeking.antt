@@ -13,10 +13,10 @@ use Rattle.records.specs.Bytes.{AllBytes}
 use Rattle.book.specs.Formed.{formed_told}
 use Rattle.book.specs.Book.{head_bytes, book_told, place_of, is_there}
 use Rattle.book.specs.Add.{entry_bytes}
-use Rattle.book.specs.Books.{Holds, HoldsAt, HasNot}
-use Rattle.book.proofs.Theory.Entries.{Entry, book_bytes, Rises, Has, bytes_append, rises_front}
-use Rattle.book.proofs.Theory.Reading.{Read, read, rises_good}
-use Rattle.book.proofs.Theory.Holding.{holds_has, has_formed, formed_fits}
+use Rattle.book.specs.Books.{Holds, HasNot}
+use Rattle.book.proofs.Theory.Entries.{Entry, book_bytes, Rises, Has, bytes_append}
+use Rattle.book.proofs.Theory.Reading.{Read, read}
+use Rattle.book.proofs.Theory.Holding.{holds_has, has_holds, has_formed}
 use Rattle.book.proofs.Theory.Placing.{Here, Placed, placed, has_last, none_there}
 
 -- the job record of an entry that stands past `front`
@@ -35,8 +35,7 @@ pub data Seek (book : List ℕ) (number : ℕ) : Type 0 where
   there :
       (rec : List ℕ) → is_there (place_of book number) ≡ true →
       take ((place_of book number).size - head_bytes) (drop ((place_of book number).at + head_bytes) book) ≡ rec →
-      (place_of book number).size - head_bytes ≡ length rec → HoldsAt book number rec ((place_of book number).at + head_bytes) →
-      formed_told rec ≡ Accepted → Seek book number
+      Holds book number rec → formed_told rec ≡ Accepted → Seek book number
   gone : is_there (place_of book number) ≡ false → HasNot book number → Seek book number
 
 -- the place, by the entries of the book
@@ -64,20 +63,11 @@ module _ (book : List ℕ) (number : ℕ) (b : AllBytes book) (r : Read 0 book) 
   found lo e hi is at n size =
       let has : Has number e.job r.entries =
       subst (λ (l : List Entry). Has number e.job l) (sym is) (has_last number e.job lo (e ∷ hi) (inl (n, refl))) in
-      let formed = has_formed 0 number e.job r.entries r.rise has in
-      let stands : book ≡ book_bytes lo ++ (entry_bytes e.number e.job ++ book_bytes hi) =
-      r.are ∙ ap book_bytes is ∙ bytes_append lo (e ∷ hi) in
-      let holds : Holds book number e.job =
-      record {
-        front = book_bytes lo;
-        rest = book_bytes hi;
-        is = stands ∙ ap (λ (k : ℕ). book_bytes lo ++ (entry_bytes k e.job ++ book_bytes hi)) n;
-        entries = rises_good 0 0 lo (rises_front 0 lo (e ∷ hi) (subst (λ (l : List Entry). Rises 0 l) is r.rise));
-        fits = formed_fits e.job formed;
-      } in
+      let holds = subst (λ (s : List ℕ). Holds s number e.job) (sym r.are) (has_holds number e.job r.entries r.rise has) in
       there e.job (lt-ltb 0 (place_of book number).size (omega arith))
-      (part_is book (book_bytes lo) e.number e.job (book_bytes hi) (place_of book number).at (place_of book number).size stands at size)
-      (omega arith) (record { holds = holds; place = omega arith }) formed
+      (part_is book (book_bytes lo) e.number e.job (book_bytes hi) (place_of book number).at (place_of book number).size
+      (r.are ∙ ap book_bytes is ∙ bytes_append lo (e ∷ hi)) at size)
+      holds (has_formed 0 number e.job r.entries r.rise has)
 
   -- by the first entry past the place
   seek_by : Placed number 0 r.entries (place_of book number) → Seek book number

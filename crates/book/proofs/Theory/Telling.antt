@@ -35,11 +35,11 @@ module _ (line factory : List ℕ) (number : ℕ) (b : AllBytes line) (c : AllBy
             Seek line number →
             ((find_of line factory number).told ≡ Accepted) × ((find_of line factory number).book ≡ 1) ×
             (lookup_of line factory number ≡ rec)
-        go (there job t part z k f) =
+        go (there job t part k f) =
             let e : find_of line factory number ≡ found_in 1 (place_of line number) = in_books_lem line factory number p q ∙ simp t in
             let told = ap (λ (f : Found). f.told) e in
             let book = ap (λ (f : Found). f.book) e in
-            (told, book, holding.one line number _ rec b p ((lookup line factory number b c).in_line told book).holds h)
+            (told, book, holding.one line number _ rec b p ((lookup line factory number b c).in_line told book) h)
         go (gone t n) = absurd (n rec h)
 
     in_factory_lem :
@@ -52,14 +52,14 @@ module _ (line factory : List ℕ) (number : ℕ) (b : AllBytes line) (c : AllBy
             Seek line number → Seek factory number →
             ((find_of line factory number).told ≡ Accepted) × ((find_of line factory number).book ≡ 2) ×
             (lookup_of line factory number ≡ rec)
-        go (there job t part z k f) s = absurd (n job k.holds)
+        go (there job t part k f) s = absurd (n job k)
         go (gone t m) (gone u o) = absurd (o rec h)
-        go (gone t m) (there job u part z k f) =
+        go (gone t m) (there job u part k f) =
             let e : find_of line factory number ≡ found_in 2 (place_of factory number) =
             in_books_lem line factory number p q ∙ simp (t, u) in
             let told = ap (λ (f : Found). f.told) e in
             let book = ap (λ (f : Found). f.book) e in
-            (told, book, holding.one factory number _ rec c q ((lookup line factory number b c).in_factory told book).0.holds h)
+            (told, book, holding.one factory number _ rec c q ((lookup line factory number b c).in_factory told book).0 h)
 
 pub tells : (line factory : List ℕ) (number : ℕ) → AllBytes line → AllBytes factory → Told line factory number
 tells line factory number b c =

@@ -16,11 +16,9 @@ add_spec =
     (λ c κs. search adds_by)
     (λ c. search rules)
     (λ c.
-    let t = c.before.before.before.before in
-    let a = adds_by _ _ _ _ _ t.before.before.add-told.ensures t.enum-told2.given.1 in
+    let a = adds_by _ _ _ _ _ c.add_told-told.ensures c.in-Accepted.is in
     omega (arith, a.fits))
-    (λ c. add_refused _ _ _ _ _ c.before.before.add-told.ensures _ _ c.enum_told.given.1 refl)
+    (λ c. add_refused _ _ _ _ _ c.add_told-told.ensures _ _ c.in-Refused.is refl)
     (λ c. search rules)
     (λ c.
-    let t = c.before.before.before.before in
-    add_accepted _ _ _ _ _ t.before.before.add-told.ensures _ _ t.enum-told2.given.1 refl c.before.before.written.ensures))
+    add_accepted _ _ _ _ _ c.add_told-told.ensures _ _ c.in-Accepted.is refl c.written.ensures))

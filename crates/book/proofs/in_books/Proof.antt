@@ -10,10 +10,10 @@ in_books_spec =
     tie.close
     (tie.spec
     (λ c κs. search rules)
-    (λ c κs. let f = place_fits _ _ _ (search rules) c.before.before.place_of.ensures (search rules) in (f.0, omega arith))
+    (λ c κs. let f = place_fits _ _ _ (search rules) c.place_of-p.ensures (search rules) in (f.0, omega arith))
     (λ c. search from_line)
     (λ c κs. search rules)
-    (λ c κs. let f = place_fits _ _ _ (search rules) c.before.before.place-of2.ensures (search rules) in (f.0, omega arith))
+    (λ c κs. let f = place_fits _ _ _ (search rules) c.place_of-q.ensures (search rules) in (f.0, omega arith))
     (λ c. search from_factory)
     (λ c κs. search rules)
     (λ c. search from_none))

@@ -11,7 +11,7 @@ lookup_spec =
     tie.close
     (tie.spec
     (λ c κs. search rules)
-    (λ c. let z = found_fits _ _ _ _ c.before.find.ensures (2 ^ 64) (omega arith) (omega arith) in omega arith)
+    (λ c. let z = found_fits _ _ _ _ c.find-f.ensures (2 ^ 64) (omega arith) (omega arith) in omega arith)
     (λ c. search rules)
     (λ c. search rules)
     (λ c. search in_factory_lem)

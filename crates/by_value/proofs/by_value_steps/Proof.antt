@@ -10,4 +10,4 @@ by_value_steps_spec =
     (λ c κs. search rules)
     (λ c κs. search rules)
     (λ c κs. search rules)
-    (λ c. simp (c.accepted.ensures, c.before.begun.ensures, c.before.before.before.setup.ensures)))
+    (λ c. simp (c.accepted.ensures, c.begun-ready.ensures, c.setup-out.ensures)))

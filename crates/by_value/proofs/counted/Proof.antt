@@ -13,5 +13,5 @@ counted_spec =
     (λ c. search rules)
     (λ c κs. search rules)
     (λ c. search rules)
-    (λ c. simp c.wrapping-add-u32.ensures (search (at_case_of counted_of)))
+    (λ c. simp c.wrapping_add_u32.ensures (search (at_case_of counted_of)))
     (λ c. search (at_case_of counted_of)))

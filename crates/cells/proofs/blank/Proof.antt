@@ -12,24 +12,24 @@ use Rattle.cells.proofs.Unpack.{unpack-blanked}
 use Rattle.cells.proofs.blank.Statement.{statement}
 use Rattle.cells.proofs.blank.Tie as tie
 
-abbrev invariant-loop : tie.invariant-loop
-invariant-loop s₀ j₀ s j = (j ≤ numbers) × (length s ≡ length s₀) × (blanked s₀ ≡ lay j (replicate (numbers - j) 0) s)
+abbrev invariant-loop-j : tie.invariant-loop-j
+invariant-loop-j s₀ j₀ s j = (j ≤ numbers) × (length s ≡ length s₀) × (blanked s₀ ≡ lay j (replicate (numbers - j) 0) s)
 
-abbrev decreases-loop : tie.decreases-loop
-decreases-loop s₀ j₀ s j = numbers - j
+abbrev decreases-loop-j : tie.decreases-loop-j
+decreases-loop-j s₀ j₀ s j = numbers - j
 
 pub blank_spec : {M : Type 1} → statement M
 unfolding blanked
 blank_spec =
     tie.close
     (tie.spec
-    invariant-loop
-    decreases-loop
+    invariant-loop-j
+    decreases-loop-j
     (λ c. (search rules, refl, refl))
     (λ c. omega arith)
     (λ c. omega arith)
     (λ c. omega arith)
     (λ c. omega arith)
-    (λ c. (omega arith, simp length-set c.before.loop.invariant.1, blank_turn _ _ _ _ c.before.loop.invariant.2 c.loop-test.true))
-    (λ c. c.before.loop.invariant.1)
-    (λ c. let q = fill_end _ _ 0 _ _ _ c.before.loop.invariant.2 c.loop-test.false in (q, ap unpack q ∙ unpack-blanked _ (search rules))))
+    (λ c. (omega arith, simp length-set c.loop-j.invariant.1, blank_turn _ _ _ _ c.loop-j.invariant.2 c.loop-j-test.true))
+    (λ c. c.loop-j.invariant.1)
+    (λ c. let q = fill_end _ _ 0 _ _ _ c.loop-j.invariant.2 c.loop-j-test.false in (q, ap unpack q ∙ unpack-blanked _ (search rules))))

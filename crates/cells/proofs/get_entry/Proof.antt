@@ -23,4 +23,4 @@ get_entry_spec =
     (λ c. search rules)
     (λ c. search rules)
     (λ c κs. search rules)
-    (λ c. simp c.fill-of.ensures (sym (pieces_get entry_part _ _ _ (search rules)))))
+    (λ c. simp c.fill_of-fill.ensures (sym (pieces_get entry_part _ _ _ (search rules)))))

@@ -17,4 +17,4 @@ get_instr_spec =
     (λ c. search rules)
     (λ c. search rules)
     (λ c κs. search rules)
-    (λ c. c.instr-in.ensures ∙ sym (pieces_get instr_part _ _ _ (search rules))))
+    (λ c. c.instr_in.ensures ∙ sym (pieces_get instr_part _ _ _ (search rules))))

@@ -20,4 +20,4 @@ get_lock_spec =
     (λ c. search rules)
     (λ c. search rules)
     (λ c κs. search rules)
-    (λ c. c.lock-of.ensures ∙ sym (pieces_get lock_part _ _ _ (search rules))))
+    (λ c. c.lock_of.ensures ∙ sym (pieces_get lock_part _ _ _ (search rules))))

@@ -21,4 +21,4 @@ get_sheet_spec =
     (λ c. search rules)
     (λ c. search rules)
     (λ c κs. search rules)
-    (λ c. simp (c.before.before.byte.ensures, c.flag.ensures) (sym (pieces_get sheet_part _ _ _ (search rules)))))
+    (λ c. simp (c.byte-length.ensures, c.flag-done.ensures) (sym (pieces_get sheet_part _ _ _ (search rules)))))

@@ -23,4 +23,4 @@ get_word_spec =
     (λ c. search rules)
     (λ c. search rules)
     (λ c. search rules)
-    (λ c. simp c.before.before.byte.ensures (sym (pieces_get word_part _ _ _ (search rules)))))
+    (λ c. simp c.byte-guard.ensures (sym (pieces_get word_part _ _ _ (search rules)))))

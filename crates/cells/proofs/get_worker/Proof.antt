@@ -14,4 +14,4 @@ get_worker_spec =
     (λ c. search rules)
     (λ c. search rules)
     (λ c κs. search rules)
-    (λ c. c.worker-at.ensures ∙ sym (pieces_get worker_part _ _ _ (search rules))))
+    (λ c. c.worker_at.ensures ∙ sym (pieces_get worker_part _ _ _ (search rules))))

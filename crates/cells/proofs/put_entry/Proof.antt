@@ -17,4 +17,4 @@ put_entry_spec =
     (λ c. search rules)
     (λ c κs. search rules)
     (λ c. search rules)
-    (λ c. puts_by entry_part with_entry unpack_entry _ _ _ _ _ c.before.before.write.ensures c.before.before.before.before.before.fill-numbers.ensures (search rules) (search rules) (entry_back _)))
+    (λ c. puts_by entry_part with_entry unpack_entry _ _ _ _ _ c.write.ensures c.fill_numbers-n.ensures (search rules) (search rules) (entry_back _)))

@@ -16,4 +16,4 @@ put_instr_spec =
     (λ c. search rules)
     (λ c κs. search rules)
     (λ c. search rules)
-    (λ c. puts_by instr_part with_instr unpack_instr _ _ _ _ _ c.before.before.write.ensures (simp c.before.before.before.before.before.instr-number.ensures.0) (search rules) (search rules) c.before.before.before.before.before.instr-number.ensures.1))
+    (λ c. puts_by instr_part with_instr unpack_instr _ _ _ _ _ c.write.ensures (simp c.instr_number.ensures.0) (search rules) (search rules) c.instr_number.ensures.1))

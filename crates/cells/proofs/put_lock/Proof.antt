@@ -17,4 +17,4 @@ put_lock_spec =
     (λ c. search rules)
     (λ c κs. search rules)
     (λ c. search rules)
-    (λ c. puts_by lock_part with_lock unpack_lock _ _ _ _ _ c.before.before.write.ensures (simp c.before.before.before.before.before.holder-number.ensures.0) (search rules) (search rules) (lock_back _ c.before.before.before.before.before.holder-number.ensures.1)))
+    (λ c. puts_by lock_part with_lock unpack_lock _ _ _ _ _ c.write.ensures (simp c.holder_number-holder.ensures.0) (search rules) (search rules) (lock_back _ c.holder_number-holder.ensures.1)))

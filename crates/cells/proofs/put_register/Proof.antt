@@ -10,4 +10,4 @@ put_register_spec =
     (λ c κs. search rules)
     (λ c κs. search rules)
     (λ c. search rules)
-    (λ c. simp (c.before.before.put-number.ensures, c.before.before.before.before.at_register.ensures.0)))
+    (λ c. simp (c.put_number.ensures, c.at_register-j.ensures.0)))

@@ -18,4 +18,4 @@ put_sheet_spec =
     (λ c. search rules)
     (λ c κs. search rules)
     (λ c. search rules)
-    (λ c. puts_by sheet_part with_sheet unpack_sheet _ _ _ _ _ c.before.before.write.ensures (simp c.before.before.before.before.before.before.flag-number.ensures) (search rules) (search rules) (sheet_back _ (search rules))))
+    (λ c. puts_by sheet_part with_sheet unpack_sheet _ _ _ _ _ c.write.ensures (simp c.flag_number-done.ensures) (search rules) (search rules) (sheet_back _ (search rules))))

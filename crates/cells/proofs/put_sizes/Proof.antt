@@ -14,4 +14,4 @@ put_sizes_spec =
     (λ c. search rules)
     (λ c κs. search rules)
     (λ c. search rules)
-    (λ c. let q = c.before.before.write.ensures in (q, ap unpack q ∙ unpack_sizes _ _ _ (search rules) (search rules) (search rules))))
+    (λ c. let q = c.write.ensures in (q, ap unpack q ∙ unpack_sizes _ _ _ (search rules) (search rules) (search rules))))

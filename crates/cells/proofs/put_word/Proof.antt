@@ -18,4 +18,4 @@ put_word_spec =
     (λ c. search rules)
     (λ c κs. search rules)
     (λ c. search rules)
-    (λ c. puts_by word_part with_word unpack_word _ _ _ _ _ c.before.before.write.ensures (refl) (search rules) (search rules) (word_back _ (search rules))))
+    (λ c. puts_by word_part with_word unpack_word _ _ _ _ _ c.write.ensures (refl) (search rules) (search rules) (word_back _ (search rules))))

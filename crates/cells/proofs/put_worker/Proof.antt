@@ -16,4 +16,4 @@ put_worker_spec =
     (λ c. search rules)
     (λ c κs. search rules)
     (λ c. search rules)
-    (λ c. puts_by worker_part with_worker unpack_worker _ _ _ _ _ c.before.before.write.ensures c.before.before.before.before.before.worker-numbers.ensures.0 (search rules) (search rules) c.before.before.before.before.before.worker-numbers.ensures.1))
+    (λ c. puts_by worker_part with_worker unpack_worker _ _ _ _ _ c.write.ensures c.worker_numbers-n.ensures.0 (search rules) (search rules) c.worker_numbers-n.ensures.1))

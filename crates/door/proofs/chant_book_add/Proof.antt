@@ -10,4 +10,4 @@ chant_book_add_spec =
     (λ c κs. search rules)
     (λ c κs. search rules)
     (λ c. search rules)
-    (λ c. let written = c.before.before.before.add.ensures in (simp (c.added.ensures, written.0), written.1)))
+    (λ c. let written = c.add-added.ensures in (simp (c.added.ensures, written.0), written.1)))

@@ -9,4 +9,4 @@ chant_book_find_spec =
     (tie.spec
     (λ c κs. search rules)
     (λ c κs. search rules)
-    (λ c. simp (c.found.ensures, c.before.find.ensures)))
+    (λ c. simp (c.found.ensures, c.find-found.ensures)))

@@ -10,4 +10,4 @@ chant_plain_spec =
     (λ c κs. search rules)
     (λ c κs. search rules)
     (λ c. search rules)
-    (λ c. let told = c.before.before.before.run.ensures in (simp (c.ran.ensures, told.0), told.1)))
+    (λ c. let told = c.run-told.ensures in (simp (c.ran.ensures, told.0), told.1)))

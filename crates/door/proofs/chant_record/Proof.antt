@@ -10,4 +10,4 @@ chant_record_spec =
     (λ c κs. search rules)
     (λ c κs. search rules)
     (λ c. search rules)
-    (λ c. let written = c.before.before.before.record.ensures in (simp (c.wrote.ensures, written.0), written.1)))
+    (λ c. let written = c.record-told.ensures in (simp (c.wrote.ensures, written.0), written.1)))

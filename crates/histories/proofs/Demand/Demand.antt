@@ -26,7 +26,7 @@ use Rattle.engine.specs.declared.Collected.{Collected}
 use Rattle.engine.specs.declared.Engine.{Engine}
 use Rattle.helping.specs.Machine.{Scene, machine_moved}
 use Rattle.helping.specs.Ok.{NotIdle, LockOk, StateOk, view_of, Named, AnswerOk, Listed, Says}
-use Rattle.past.specs.Past.{Past, steps, state_after}
+use Rattle.past.specs.Past.{Past, state_after}
 use Rattle.histories.specs.History.{Sofar, sofar, start, Hold, given, HeldWords, RanOnce, GoesOn, Demand3}
 use Rattle.helping.proofs.Ranges.{ranged}
 use Rattle.helping.proofs.Help.{held_part, to_do}

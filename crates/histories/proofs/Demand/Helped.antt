@@ -5,7 +5,7 @@ use mathlib.Core.Path.{◌≡◌, refl, sym, ap, ◌∙◌, subst}
 use mathlib.Core.Bool.{false}
 use mathlib.Core.List.{List, ◌∷◌}
 use borrow.Author.Tests.{lt-leb, eq-eqb}
-use Rattle.parts.specs.Numbers.{workers, sheets, instructions, help_steps}
+use Rattle.parts.specs.Numbers.{workers, instructions, help_steps}
 use Rattle.parts.specs.Parts.{worn_of}
 use Rattle.parts.specs.declared.Holder.TheVariants.{By}
 use Rattle.parts.specs.declared.Instr.{Instr}
@@ -28,7 +28,6 @@ use Rattle.engine.specs.declared.Engine.{Engine}
 use Rattle.engine.specs.declared.Outcome.{Outcome}
 use Rattle.helping.specs.Machine.{Rules, Scene, machine_begun, begin_tale, step_at}
 use Rattle.helping.specs.Ok.{onward, alone_steps}
-use Rattle.ranges.specs.Good.{Good}
 use Rattle.past.specs.Past as past
 use Rattle.histories.specs.History as history
 use Rattle.past.specs.Past.{Begin, Step, AllRecords, after}

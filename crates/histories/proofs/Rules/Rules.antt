@@ -31,7 +31,7 @@ use Rattle.steps.specs.Places.{helped_of, names, keeps}
 use Rattle.steps.specs.Worker.{on_state, worker0}
 use Rattle.steps.specs.declared.State.{State}
 use Rattle.steps.specs.declared.Point.{Point}
-use Rattle.steps.specs.declared.State.TheVariants.{Idle, UnderWay}
+use Rattle.steps.specs.declared.State.TheVariants.{UnderWay}
 use Rattle.steps.specs.declared.Worker.{Worker}
 use Rattle.engine.specs.State.{sheet0, blank_of, free_sheet, lock_count, word_count, lock_at, word_at, worker_at, words_of, base_of}
 use Rattle.engine.specs.Calls.{fresh_of, setup_of}

@@ -3,8 +3,8 @@
 use Prim.Native.Nat.{ℕ, zero, suc, ◌-◌, ◌<◌}
 use native.Mathlib.Omega.{arith}
 use mathlib.Core.Path.{◌≡◌, refl, ◌∙◌, sym, ap}
-use mathlib.Core.Bool.{Bool, true, false}
-use mathlib.Core.List.{List, [], ◌∷◌, ◌++◌, map}
+use mathlib.Core.Bool.{Bool, false}
+use mathlib.Core.List.{List, [], ◌∷◌, map}
 use lib.ListN.{length, drop, replicate, length-map, length-replicate, take-append-drop}
 use lib.Seq.{drop_at, drop-set-lt}
 use Rattle.arrays.specs.Fresh.{free_at}
@@ -85,13 +85,13 @@ spare_after : (e : Engine) (h : List Call) → Good e → Spare e → AllRecords
 unfolding after_all after AllRecords begin_of begun_of collect_of drop_of
 spare_after e [] g p b = p
 spare_after e (Begin w l rec ∷ cs) g p b =
-    spare_after _ cs (good_begin e w l rec g b.0) (outcome_spare e (begin_told e w l rec) _ p (λ t. p)) b.1
-spare_after e (Step w ∷ cs) g p b = spare_after _ cs (good_step e w g) (spare_step e w g p) b
+    spare_after (begin_of e w l rec).engine cs (good_begin e w l rec g b.0) (outcome_spare e (begin_told e w l rec) _ p (λ t. p)) b.1
+spare_after e (Step w ∷ cs) g p b = spare_after (step_of e w).engine cs (good_step e w g) (spare_step e w g p) b
 spare_after e (Collect w ∷ cs) g p b =
-    spare_after _ cs (good_collect e w g)
+    spare_after (collect_of e w).engine cs (good_collect e w g)
     (told_all (λ (o : Collected). Spare o.engine) (collect_told e w) _ _ (λ t. p) (λ r q. p)) b
 spare_after e (Drop w ∷ cs) g p b =
-    spare_after _ cs (good_drop e w g) (outcome_spare e (drop_told e w) _ p (λ t. p)) b
+    spare_after (drop_of e w).engine cs (good_drop e w g) (outcome_spare e (drop_told e w) _ p (λ t. p)) b
 spare_after e (ReadWord i ∷ cs) g p b = spare_after e cs g p b
 spare_after e (ReadLock l ∷ cs) g p b = spare_after e cs g p b
 spare_after e (Show s room ∷ cs) g p b = spare_after e cs g p b

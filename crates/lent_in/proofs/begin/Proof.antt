@@ -15,10 +15,8 @@ begin_spec =
     (λ c κs. search rules)
     (λ c κs. (search rules, search begins_by, search one_found))
     (λ c. search rules)
-    (λ c. begin_refused _ _ _ _ _ _ c.before.before.begin-told.ensures c.enum_told.given.1)
+    (λ c. begin_refused _ _ _ _ _ _ c.begin_told-told.ensures c.in-Refused.is)
     (λ c. search rules)
     (λ c.
-    let f = c.before.before.before.before in
-    let e = f.before.before in
-    begin_accepted _ _ _ _ _ _ _ e.before.before.begin-told.ensures e.enum-told2.given.1 f.free-sheet.ensures
-    c.before.before.taken.ensures))
+    begin_accepted _ _ _ _ _ _ _ c.begin_told-told.ensures c.in-Accepted.is c.free_sheet-sheet.ensures
+    c.taken.ensures))

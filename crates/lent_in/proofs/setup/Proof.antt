@@ -15,15 +15,11 @@ setup_spec =
     (λ c. search rules)
     (λ c. search rules)
     (λ c κs.
-    let t = c.before.before.before in
-    (search rules, setup_sized _ (sym t.setup-told.ensures ∙ c.before.enum-told2.given.1)))
+    (search rules, setup_sized _ (sym c.setup_told-told.ensures ∙ c.in-Accepted.is)))
     (λ c. search rules)
     (λ c.
-    let t = c.before.before in
-    setup_refused _ _ _ _ _ t.setup-told.ensures c.enum_told.given.1 t.before.before.before.blank.ensures)
+    setup_refused _ _ _ _ _ c.setup_told-told.ensures c.in-Refused.is c.blank.ensures)
     (λ c. search rules)
     (λ c.
-    let e = c.before.before.before.before in
-    let t = e.before.before in
-    setup_accepted _ _ _ _ _ t.setup-told.ensures e.enum-told2.given.1 t.before.before.before.blank.ensures
-    c.before.before.filled.ensures))
+    setup_accepted _ _ _ _ _ c.setup_told-told.ensures c.in-Accepted.is c.blank.ensures
+    c.filled.ensures))

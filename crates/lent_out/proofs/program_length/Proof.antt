@@ -9,4 +9,4 @@ program_length_spec =
     (tie.spec
     (λ c κs. search rules)
     (λ c κs. search rules)
-    (λ c. simp (← c.before.get-sheet.ensures) c.instruction-count.ensures))
+    (λ c. simp (← c.get_sheet-x.ensures) c.instruction_count.ensures))

@@ -11,5 +11,4 @@ put_state_spec =
     (λ c κs. search rules)
     (λ c κs. search rules)
     (λ c. search rules)
-    (λ c. let counts = c.before.before.before.before in
-    simp (← counts.word_count.ensures, ← counts.before.lock-count.ensures) c.before.before.put-setup.ensures))
+    (λ c. simp (← c.word_count-w.ensures, ← c.lock_count-l.ensures) c.put_setup.ensures))

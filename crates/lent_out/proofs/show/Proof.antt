@@ -14,7 +14,7 @@ show_spec =
     (λ c κs. search rules)
     (λ c. search rules)
     (λ c. search rules)
-    (λ c κs. let room = show_room _ _ _ _ c.before.before.before.show-told.ensures c.before.enum_told.given.1 in
+    (λ c κs. let room = show_room _ _ _ _ c.show_told-told.ensures c.in-Accepted.is in
     (search rules, room.0, room.1))
     (λ c. search told_stop)
     (λ c. search rules)

@@ -15,6 +15,6 @@ show_told_spec =
     (λ c κs. search rules)
     (λ c. search rules)
     (λ c. search rules)
-    (λ c. simp (← c.before.program-length.ensures) (search (laws, order, calls) depth 8))
-    (λ c. simp (← c.before.program-length.ensures) (search (laws, order, calls) depth 8))
+    (λ c. simp (← c.program_length-n.ensures) (search (laws, order, calls) depth 8))
+    (λ c. simp (← c.program_length-n.ensures) (search (laws, order, calls) depth 8))
     (λ c. search (laws, order, calls) depth 8))

@@ -12,6 +12,6 @@ helped_spec =
     (tie.spec
     (λ c. search (laws, calls))
     (λ c κs. search rules)
-    (λ c. simp c.holder-of.ensures (search laws))
+    (λ c. simp c.holder_of.ensures (search laws))
     (λ c κs. search rules)
     (λ c. simp c.byte.ensures (search laws)))

@@ -9,18 +9,18 @@ use Rattle.script.proofs.Laws.{hex_stop, hex_turn, hex_end}
 use Rattle.script.proofs.all_hex.Statement.{statement}
 use Rattle.script.proofs.all_hex.Tie as tie
 
-abbrev invariant-loop : tie.invariant-loop
-invariant-loop word j₀ j = (j ≤ length word) × (all_hex word ≡ all_hex (drop j word))
+abbrev invariant-loop-j : tie.invariant-loop-j
+invariant-loop-j word j₀ j = (j ≤ length word) × (all_hex word ≡ all_hex (drop j word))
 
-abbrev decreases-loop : tie.decreases-loop
-decreases-loop word j₀ j = length word - j
+abbrev decreases-loop-j : tie.decreases-loop-j
+decreases-loop-j word j₀ j = length word - j
 
 pub all_hex_spec : {M : Type 1} → statement M
 all_hex_spec =
     tie.close
     (tie.spec
-    invariant-loop
-    decreases-loop
+    invariant-loop-j
+    decreases-loop-j
     (λ c. (omega arith, refl))
     (λ c. search rules)
     (λ c κs. search rules)

@@ -9,18 +9,18 @@ use Rattle.script.proofs.Laws.{digits_stop, digits_turn, digits_end}
 use Rattle.script.proofs.digits_of.Statement.{statement}
 use Rattle.script.proofs.digits_of.Tie as tie
 
-abbrev invariant-loop : tie.invariant-loop
-invariant-loop word n₀ j₀ n j = (j ≤ length word) × (digits_from 0 word ≡ digits_from n (drop j word))
+abbrev invariant-loop-j : tie.invariant-loop-j
+invariant-loop-j word n₀ j₀ n j = (j ≤ length word) × (digits_from 0 word ≡ digits_from n (drop j word))
 
-abbrev decreases-loop : tie.decreases-loop
-decreases-loop word n₀ j₀ n j = length word - j
+abbrev decreases-loop-j : tie.decreases-loop-j
+decreases-loop-j word n₀ j₀ n j = length word - j
 
 pub digits_of_spec : {M : Type 1} → statement M
 digits_of_spec =
     tie.close
     (tie.spec
-    invariant-loop
-    decreases-loop
+    invariant-loop-j
+    decreases-loop-j
     (λ c. (omega arith, refl))
     (λ c. search rules)
     (λ c κs. search rules)

@@ -9,18 +9,18 @@ use Rattle.script.proofs.Laws.{at_found, at_turn, at_end}
 use Rattle.script.proofs.first_at.Statement.{statement}
 use Rattle.script.proofs.first_at.Tie as tie
 
-abbrev invariant-loop : tie.invariant-loop
-invariant-loop s x j₀ j = (j ≤ length s) × (first_at x s ≡ j + first_at x (drop j s))
+abbrev invariant-loop-j : tie.invariant-loop-j
+invariant-loop-j s x j₀ j = (j ≤ length s) × (first_at x s ≡ j + first_at x (drop j s))
 
-abbrev decreases-loop : tie.decreases-loop
-decreases-loop s x j₀ j = length s - j
+abbrev decreases-loop-j : tie.decreases-loop-j
+decreases-loop-j s x j₀ j = length s - j
 
 pub first_at_spec : {M : Type 1} → statement M
 first_at_spec =
     tie.close
     (tie.spec
-    invariant-loop
-    decreases-loop
+    invariant-loop-j
+    decreases-loop-j
     (λ c. (omega arith, omega arith))
     (λ c. search rules)
     (λ c. (search at_found, search rules))

@@ -11,7 +11,6 @@ unfolding is_record
 is_record_spec =
     tie.close
     (tie.spec
-    (λ c. search rules)
     (λ c κs. search rules)
     (λ c. search (laws, calls, reading) depth 8)
     (λ c. search (laws, calls, reading) depth 8)

@@ -11,19 +11,14 @@ unfolding one_verb
 one_verb_spec =
     tie.close
     (tie.spec
-    (λ c. search rules)
     (λ c κs. search rules)
     (λ c. search (laws, calls, reading) depth 8)
-    (λ c. search rules)
     (λ c κs. search rules)
     (λ c. search (laws, calls, reading) depth 8)
-    (λ c. search rules)
     (λ c κs. search rules)
     (λ c. search (laws, calls, reading) depth 8)
-    (λ c. search rules)
     (λ c κs. search rules)
     (λ c. search (laws, calls, reading) depth 8)
-    (λ c. search rules)
     (λ c κs. search rules)
     (λ c. search (laws, calls, reading) depth 8)
     (λ c. search (laws, calls, reading) depth 8))

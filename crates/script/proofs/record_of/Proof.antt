@@ -10,19 +10,19 @@ use Rattle.script.proofs.Laws.{first_count, record_turn, record_end}
 use Rattle.script.proofs.record_of.Statement.{statement}
 use Rattle.script.proofs.record_of.Tie as tie
 
-abbrev invariant-loop : tie.invariant-loop
-invariant-loop word n bytes₀ j₀ bytes j =
+abbrev invariant-loop-j : tie.invariant-loop-j
+invariant-loop-j word n bytes₀ j₀ bytes j =
     (j ≤ n) × (length bytes ≡ most_bytes) × (take j bytes ≡ take j (hex_bytes word))
 
-abbrev decreases-loop : tie.decreases-loop
-decreases-loop word n bytes₀ j₀ bytes j = n - j
+abbrev decreases-loop-j : tie.decreases-loop-j
+decreases-loop-j word n bytes₀ j₀ bytes j = n - j
 
 pub record_of_spec : {M : Type 1} → statement M
 record_of_spec =
     tie.close
     (tie.spec
-    invariant-loop
-    decreases-loop
+    invariant-loop-j
+    decreases-loop-j
     (λ c κs. search rules)
     (λ c. (omega arith, refl, refl))
     (λ c. omega arith)

@@ -9,18 +9,18 @@ use Rattle.script.proofs.Laws.{same_stop, same_turn, same_end, same_lengths}
 use Rattle.script.proofs.same.Statement.{statement}
 use Rattle.script.proofs.same.Tie as tie
 
-abbrev invariant-loop : tie.invariant-loop
-invariant-loop a b j₀ j = (j ≤ length a) × (length a ≡ length b) × (same_of a b ≡ same_of (drop j a) (drop j b))
+abbrev invariant-loop-j : tie.invariant-loop-j
+invariant-loop-j a b j₀ j = (j ≤ length a) × (length a ≡ length b) × (same_of a b ≡ same_of (drop j a) (drop j b))
 
-abbrev decreases-loop : tie.decreases-loop
-decreases-loop a b j₀ j = length a - j
+abbrev decreases-loop-j : tie.decreases-loop-j
+decreases-loop-j a b j₀ j = length a - j
 
 pub same_spec : {M : Type 1} → statement M
 same_spec =
     tie.close
     (tie.spec
-    invariant-loop
-    decreases-loop
+    invariant-loop-j
+    decreases-loop-j
     (λ c. (omega arith, search rules, refl))
     (λ c. search rules)
     (λ c. search rules)

@@ -11,16 +11,12 @@ unfolding verb_of
 verb_of_spec =
     tie.close
     (tie.spec
-    (λ c. search rules)
     (λ c κs. search rules)
     (λ c. search (laws, calls, reading) depth 8)
-    (λ c. search rules)
     (λ c κs. search rules)
     (λ c. search (laws, calls, reading) depth 8)
-    (λ c. search rules)
     (λ c κs. search rules)
     (λ c. search (laws, calls, reading) depth 8)
-    (λ c. search rules)
     (λ c κs. search rules)
     (λ c. search (laws, calls, reading) depth 8)
     (λ c κs. search rules)

@@ -10,27 +10,25 @@ use Rattle.sheets.proofs.Laws.{lowest_turn, lowest_here, lowest_end}
 use Rattle.sheets.proofs.lowest_unmarked.Statement.{statement}
 use Rattle.sheets.proofs.lowest_unmarked.Tie as tie
 
-abbrev invariant-loop : tie.invariant-loop
-invariant-loop marks i₀ i = (i ≤ sheets - 1) × (lowest_of (marked_of marks) 0 (sheets - 1) ≡ lowest_of (marked_of marks) i (sheets - 1 - i))
+abbrev invariant-loop-i : tie.invariant-loop-i
+invariant-loop-i marks i₀ i = (i ≤ sheets - 1) × (lowest_of (marked_of marks) 0 (sheets - 1) ≡ lowest_of (marked_of marks) i (sheets - 1 - i))
 
-abbrev decreases-loop : tie.decreases-loop
-decreases-loop marks i₀ i = sheets - 1 - i
+abbrev decreases-loop-i : tie.decreases-loop-i
+decreases-loop-i marks i₀ i = sheets - 1 - i
 
 pub lowest_unmarked_spec : {M : Type 1} → statement M
 lowest_unmarked_spec =
     tie.close
     (tie.spec
-    invariant-loop
-    decreases-loop
+    invariant-loop-i
+    decreases-loop-i
     (λ c. (search rules, refl))
     (λ c. search rules)
     (λ c κs. search rules)
     (λ c. search rules)
     (λ c. search rules)
     (λ c.
-    let at = c.before.before.before in
-    (omega arith, lowest_turn _ _ _ _ at.loop.invariant.1 (search rules) (sym c.before.marked.ensures ∙ c.if1.true)))
+    (omega arith, lowest_turn _ _ _ _ c.loop-i.invariant.1 (search rules) (sym c.marked-used.ensures ∙ c.if-used.true)))
     (λ c.
-    let at = c.before.before.before in
-    lowest_here _ _ _ _ at.loop.invariant.1 (search rules) (sym c.before.marked.ensures ∙ c.if1.false))
-    (λ c. lowest_end _ _ _ _ c.before.loop.invariant.1 (search rules)))
+    lowest_here _ _ _ _ c.loop-i.invariant.1 (search rules) (sym c.marked-used.ensures ∙ c.if-used.false))
+    (λ c. lowest_end _ _ _ _ c.loop-i.invariant.1 (search rules)))

@@ -10,20 +10,20 @@ use Rattle.text.proofs.Written.{hex_place, hex_laid, hex_end}
 use Rattle.text.proofs.put_hex.Statement.{statement}
 use Rattle.text.proofs.put_hex.Tie as tie
 
-abbrev invariant-loop : tie.invariant-loop
-invariant-loop buf₀ at bytes next₀ j₀ buf next j =
+abbrev invariant-loop-j : tie.invariant-loop-j
+invariant-loop-j buf₀ at bytes next₀ j₀ buf next j =
     (j ≤ length bytes) × (length buf ≡ length buf₀) × (next ≡ at + 2 * j) ×
     (lay at (hex_text bytes) buf₀ ≡ lay next (hex_text (drop j bytes)) buf)
 
-abbrev decreases-loop : tie.decreases-loop
-decreases-loop buf₀ at bytes next₀ j₀ buf next j = length bytes - j
+abbrev decreases-loop-j : tie.decreases-loop-j
+decreases-loop-j buf₀ at bytes next₀ j₀ buf next j = length bytes - j
 
 pub put_hex_spec : {M : Type 1} → statement M
 put_hex_spec =
     tie.close
     (tie.spec
-    invariant-loop
-    decreases-loop
+    invariant-loop-j
+    decreases-loop-j
     (λ c. (omega arith, refl, omega arith, refl))
     (λ c. search rules)
     (λ c κs. search rules)

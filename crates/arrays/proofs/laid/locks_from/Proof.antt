@@ -13,20 +13,20 @@ use Rattle.arrays.proofs.Laws.{walk_turn, lock_next, lock_none}
 use Rattle.arrays.proofs.laid.locks_from.Statement.{statement}
 use Rattle.arrays.proofs.laid.locks_from.Tie as tie
 
-abbrev invariant-loop : tie.invariant-loop
-invariant-loop turns out₀ rest₀ j₀ out rest j =
+abbrev invariant-loop-rest : tie.invariant-loop-rest
+invariant-loop-rest turns out₀ rest₀ j₀ out rest j =
     (length rest + 4 * j ≡ length turns) ×
     (lay 0 (map free_at (u32s_of turns)) out₀ ≡ lay j (map free_at (u32s_of rest)) out)
 
-abbrev decreases-loop : tie.decreases-loop
-decreases-loop turns out₀ rest₀ j₀ out rest j = length rest
+abbrev decreases-loop-rest : tie.decreases-loop-rest
+decreases-loop-rest turns out₀ rest₀ j₀ out rest j = length rest
 
 pub locks_from_spec : {M : Type 1} → statement M
 locks_from_spec =
     tie.close
     (tie.spec
-    invariant-loop
-    decreases-loop
+    invariant-loop-rest
+    decreases-loop-rest
     (λ c. (omega arith, refl))
     (λ c κs. search rules)
     (λ c. search rules)
@@ -38,7 +38,7 @@ locks_from_spec =
     (λ c. search rules)
     (λ c. (
       omega arith,
-      walk_turn (λ s. map free_at (u32s_of s)) _ _ _ _ _ _ c.before.before.before.loop.invariant.1 refl
-          (lock_next _ _ c.before.u32-at.ensures c.before.before.loop-test.true),
+      walk_turn (λ s. map free_at (u32s_of s)) _ _ _ _ _ _ c.loop-rest.invariant.1 refl
+          (lock_next _ _ c.u32_at.ensures c.loop-rest-test.true),
     ))
-    (λ c. lay_done _ _ _ _ (lock_none _ c.loop-test.false) c.before.loop.invariant.1))
+    (λ c. lay_done _ _ _ _ (lock_none _ c.loop-rest-test.false) c.loop-rest.invariant.1))

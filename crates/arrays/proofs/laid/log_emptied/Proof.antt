@@ -12,25 +12,25 @@ use Rattle.arrays.proofs.Laws.{fill_turn, fill_end}
 use Rattle.arrays.proofs.laid.log_emptied.Statement.{statement}
 use Rattle.arrays.proofs.laid.log_emptied.Tie as tie
 
-abbrev invariant-loop : tie.invariant-loop
-invariant-loop base log₀ e₀ log e =
+abbrev invariant-loop-e : tie.invariant-loop-e
+invariant-loop-e base log₀ e₀ log e =
     (e ≤ instructions) ×
     (lay base (replicate instructions entry0) log₀ ≡ lay (base + e) (replicate (instructions - e) entry0) log)
 
-abbrev decreases-loop : tie.decreases-loop
-decreases-loop base log₀ e₀ log e = instructions - e
+abbrev decreases-loop-e : tie.decreases-loop-e
+decreases-loop-e base log₀ e₀ log e = instructions - e
 
 pub log_emptied_spec : {M : Type 1} → statement M
 log_emptied_spec =
     tie.close
     (tie.spec
-    invariant-loop
-    decreases-loop
+    invariant-loop-e
+    decreases-loop-e
     (λ c. (search rules, simp add-zero))
     (λ c. search rules)
     (λ c. search rules)
     (λ c. search rules)
     (λ c. search rules)
     (λ c. search rules)
-    (λ c. (omega arith, fill_turn _ _ _ _ _ _ c.before.loop.invariant.1 c.loop-test.true))
-    (λ c. fill_end _ _ _ _ _ _ c.before.loop.invariant.1 c.loop-test.false))
+    (λ c. (omega arith, fill_turn _ _ _ _ _ _ c.loop-e.invariant.1 c.loop-e-test.true))
+    (λ c. fill_end _ _ _ _ _ _ c.loop-e.invariant.1 c.loop-e-test.false))

@@ -12,25 +12,25 @@ use Rattle.arrays.proofs.Laws.{fill_turn, fill_end}
 use Rattle.arrays.proofs.laid.program_emptied.Statement.{statement}
 use Rattle.arrays.proofs.laid.program_emptied.Tie as tie
 
-abbrev invariant-loop : tie.invariant-loop
-invariant-loop base program₀ j₀ program j =
+abbrev invariant-loop-j : tie.invariant-loop-j
+invariant-loop-j base program₀ j₀ program j =
     (j ≤ instructions) ×
     (lay base (replicate instructions instr0) program₀ ≡ lay (base + j) (replicate (instructions - j) instr0) program)
 
-abbrev decreases-loop : tie.decreases-loop
-decreases-loop base program₀ j₀ program j = instructions - j
+abbrev decreases-loop-j : tie.decreases-loop-j
+decreases-loop-j base program₀ j₀ program j = instructions - j
 
 pub program_emptied_spec : {M : Type 1} → statement M
 program_emptied_spec =
     tie.close
     (tie.spec
-    invariant-loop
-    decreases-loop
+    invariant-loop-j
+    decreases-loop-j
     (λ c. (search rules, simp add-zero))
     (λ c. search rules)
     (λ c. search rules)
     (λ c. search rules)
     (λ c. search rules)
     (λ c. search rules)
-    (λ c. (omega arith, fill_turn _ _ _ _ _ _ c.before.loop.invariant.1 c.loop-test.true))
-    (λ c. fill_end _ _ _ _ _ _ c.before.loop.invariant.1 c.loop-test.false))
+    (λ c. (omega arith, fill_turn _ _ _ _ _ _ c.loop-j.invariant.1 c.loop-j-test.true))
+    (λ c. fill_end _ _ _ _ _ _ c.loop-j.invariant.1 c.loop-j-test.false))

@@ -13,19 +13,19 @@ use Rattle.arrays.proofs.Laws.{walk_turn}
 use Rattle.arrays.proofs.laid.program_laid.Statement.{statement}
 use Rattle.arrays.proofs.laid.program_laid.Tie as tie
 
-abbrev invariant-loop : tie.invariant-loop
-invariant-loop base code program₀ rest₀ j₀ program rest j =
+abbrev invariant-loop-rest : tie.invariant-loop-rest
+invariant-loop-rest base code program₀ rest₀ j₀ program rest j =
     (length rest + 4 * j ≡ length code) × (lay base (instrs_of code) program₀ ≡ lay (base + j) (instrs_of rest) program)
 
-abbrev decreases-loop : tie.decreases-loop
-decreases-loop base code program₀ rest₀ j₀ program rest j = length rest
+abbrev decreases-loop-rest : tie.decreases-loop-rest
+decreases-loop-rest base code program₀ rest₀ j₀ program rest j = length rest
 
 pub program_laid_spec : {M : Type 1} → statement M
 program_laid_spec =
     tie.close
     (tie.spec
-    invariant-loop
-    decreases-loop
+    invariant-loop-rest
+    decreases-loop-rest
     (λ c. (omega arith, simp add-zero))
     (λ c. search rules)
     (λ c. search rules)
@@ -41,7 +41,7 @@ program_laid_spec =
     (λ c. search rules)
     (λ c. (
       omega arith,
-      walk_turn instrs_of _ _ _ _ _ _ c.before.before.before.before.before.before.loop.invariant.1 (omega arith)
-          (instrs_turn _ c.before.before.before.before.before.loop-test.true),
+      walk_turn instrs_of _ _ _ _ _ _ c.loop-rest.invariant.1 (omega arith)
+          (instrs_turn _ c.loop-rest-test.true),
     ))
-    (λ c. lay_done _ _ _ _ (instrs_short _ c.loop-test.false) c.before.loop.invariant.1))
+    (λ c. lay_done _ _ _ _ (instrs_short _ c.loop-rest-test.false) c.loop-rest.invariant.1))

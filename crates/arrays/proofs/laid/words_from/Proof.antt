@@ -11,20 +11,20 @@ use Rattle.arrays.proofs.Laws.{words_turn, words_end}
 use Rattle.arrays.proofs.laid.words_from.Statement.{statement}
 use Rattle.arrays.proofs.laid.words_from.Tie as tie
 
-abbrev invariant-loop : tie.invariant-loop
-invariant-loop guards values out₀ j₀ out j =
+abbrev invariant-loop-j : tie.invariant-loop-j
+invariant-loop-j guards values out₀ j₀ out j =
     (j ≤ length guards) ×
     (lay 0 (words_from guards (u32s_of values)) out₀ ≡ lay j (words_from (drop j guards) (u32s_of (drop (4 * j) values))) out)
 
-abbrev decreases-loop : tie.decreases-loop
-decreases-loop guards values out₀ j₀ out j = length guards - j
+abbrev decreases-loop-j : tie.decreases-loop-j
+decreases-loop-j guards values out₀ j₀ out j = length guards - j
 
 pub words_from_spec : {M : Type 1} → statement M
 words_from_spec =
     tie.close
     (tie.spec
-    invariant-loop
-    decreases-loop
+    invariant-loop-j
+    decreases-loop-j
     (λ c. (search rules, refl))
     (λ c. search rules)
     (λ c κs. search rules)
@@ -35,6 +35,6 @@ words_from_spec =
     (λ c. search rules)
     (λ c. (
       omega arith,
-      words_turn _ _ _ _ _ _ c.before.before.before.loop.invariant.1 c.before.u32-at.ensures (search rules) (search rules),
+      words_turn _ _ _ _ _ _ c.loop-j.invariant.1 c.u32_at.ensures (search rules) (search rules),
     ))
-    (λ c. words_end _ _ _ _ _ c.before.loop.invariant.1 c.loop-test.false))
+    (λ c. words_end _ _ _ _ _ c.loop-j.invariant.1 c.loop-j-test.false))

@@ -10,19 +10,19 @@ use Rattle.arrays.proofs.Laws.{held_turn, held_stop, held_end}
 use Rattle.arrays.proofs.written.held_told.Statement.{statement}
 use Rattle.arrays.proofs.written.held_told.Tie as tie
 
-abbrev invariant-loop : tie.invariant-loop
-invariant-loop n locks j₀ j =
+abbrev invariant-loop-j : tie.invariant-loop-j
+invariant-loop-j n locks j₀ j =
     (j ≤ n) × (held_told (take n locks) 0 ≡ held_told (drop j (take n locks)) j)
 
-abbrev decreases-loop : tie.decreases-loop
-decreases-loop n locks j₀ j = n - j
+abbrev decreases-loop-j : tie.decreases-loop-j
+decreases-loop-j n locks j₀ j = n - j
 
 pub held_told_spec : {M : Type 1} → statement M
 held_told_spec =
     tie.close
     (tie.spec
-    invariant-loop
-    decreases-loop
+    invariant-loop-j
+    decreases-loop-j
     (λ c. (search rules, refl))
     (λ c. search rules)
     (λ c. search rules)
@@ -31,10 +31,10 @@ held_told_spec =
     (λ c. search rules)
     (λ c. (
       omega arith,
-      held_turn _ _ _ _ lock0 c.before.before.before.before.loop.invariant.1 (search rules)
-          c.before.before.before.loop-test.true (search rules),
+      held_turn _ _ _ _ lock0 c.loop-j.invariant.1 (search rules)
+          c.loop-j-test.true (search rules),
     ))
     (λ c. search rules)
-    (λ c. held_stop _ _ _ _ _ lock0 c.before.before.before.before.loop.invariant.1 c.enum-told2.given.1
-    c.before.before.before.loop-test.true (search rules))
-    (λ c. held_end _ _ _ _ c.before.loop.invariant.1 c.loop-test.false (search rules)))
+    (λ c. held_stop _ _ _ _ _ lock0 c.loop-j.invariant.1 c.in-By.is
+    c.loop-j-test.true (search rules))
+    (λ c. held_end _ _ _ _ c.loop-j.invariant.1 c.loop-j-test.false (search rules)))

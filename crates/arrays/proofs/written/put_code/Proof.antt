@@ -11,22 +11,22 @@ use Rattle.arrays.proofs.Laws.{fits_from, first_done, code_put}
 use Rattle.arrays.proofs.written.put_code.Statement.{statement}
 use Rattle.arrays.proofs.written.put_code.Tie as tie
 
-abbrev invariant-loop : tie.invariant-loop
-invariant-loop base n buf₀ at program j₀ buf j =
+abbrev invariant-loop-j : tie.invariant-loop-j
+invariant-loop-j base n buf₀ at program j₀ buf j =
     (j ≤ n) × (base + n ≤ length program) × (length buf ≡ length buf₀) ×
     (lay at (code_bytes (take n (drop base program))) buf₀ ≡
     lay (at + 4 * j) (code_bytes (drop j (take n (drop base program)))) buf)
 
-abbrev decreases-loop : tie.decreases-loop
-decreases-loop base n buf₀ at program j₀ buf j = n - j
+abbrev decreases-loop-j : tie.decreases-loop-j
+decreases-loop-j base n buf₀ at program j₀ buf j = n - j
 
 pub put_code_spec : {M : Type 1} → statement M
 unfolding code_bytes
 put_code_spec =
     tie.close
     (tie.spec
-    invariant-loop
-    decreases-loop
+    invariant-loop-j
+    decreases-loop-j
     (λ c. (search rules, search rules, refl, simp add-zero))
     (λ c. search rules)
     (λ c. search rules)
@@ -38,12 +38,12 @@ put_code_spec =
     (λ c. search rules)
     (λ c. (
       omega arith,
-      c.before.before.before.before.before.before.loop.invariant.1,
-      c.before.before.put_four.auto.0 ∙ c.before.before.before.before.before.before.loop.invariant.2,
-      code_put _ _ _ _ _ _ _ _ _ c.before.before.before.before.before.before.loop.invariant.3
-          c.before.before.put_four.ensures c.before.before.before.before.before.loop-test.true
-          c.before.before.before.before.before.before.loop.invariant.1,
+      c.loop-j.invariant.1,
+      c.put_four.auto.buf ∙ c.loop-j.invariant.2,
+      code_put _ _ _ _ _ _ _ _ _ c.loop-j.invariant.3
+          c.put_four.ensures c.loop-j-test.true
+          c.loop-j.invariant.1,
     ))
     (λ c. search rules)
-    (λ c. first_done code_bytes _ _ _ _ _ _ refl c.before.loop.invariant.3 c.loop-test.false
-    (fits_from _ _ _ c.before.loop.invariant.1)))
+    (λ c. first_done code_bytes _ _ _ _ _ _ refl c.loop-j.invariant.3 c.loop-j-test.false
+    (fits_from _ _ _ c.loop-j.invariant.1)))

@@ -13,4 +13,4 @@ body_formed_spec =
     (λ c. search rules)
     (λ c. search rules)
     (λ c κs. search rules)
-    (λ c. c.code-formed.ensures ∙ simp (part_end 4 c.before.before.before.args.rec.now)))
+    (λ c. c.code_formed.ensures ∙ simp (part_end 4 c.args.rec.now)))

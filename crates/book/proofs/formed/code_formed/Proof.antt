@@ -11,19 +11,19 @@ use Rattle.book.proofs.Laws.{code_turn, code_end}
 use Rattle.book.proofs.formed.code_formed.Statement.{statement}
 use Rattle.book.proofs.formed.code_formed.Tie as tie
 
-abbrev invariant-loop : tie.invariant-loop
-invariant-loop code rest₀ place₀ rest place =
+abbrev invariant-loop-rest : tie.invariant-loop-rest
+invariant-loop-rest code rest₀ place₀ rest place =
     (length rest + 4 * place ≡ length code) × (code_formed (instrs_of code) 0 ≡ code_formed (instrs_of rest) place)
 
-abbrev decreases-loop : tie.decreases-loop
-decreases-loop code rest₀ place₀ rest place = length rest
+abbrev decreases-loop-rest : tie.decreases-loop-rest
+decreases-loop-rest code rest₀ place₀ rest place = length rest
 
 pub code_formed_spec : {M : Type 1} → statement M
 code_formed_spec =
     tie.close
     (tie.spec
-    invariant-loop
-    decreases-loop
+    invariant-loop-rest
+    decreases-loop-rest
     (λ c. (omega arith, refl))
     (λ c κs. search rules)
     (λ c. search rules)
@@ -34,11 +34,11 @@ code_formed_spec =
     (λ c. omega arith)
     (λ c. (
       omega arith,
-      c.before.before.before.before.before.loop.invariant.1 ∙ code_turn _ _ c.before.before.before.before.loop-test.true ∙
-          sym (then_pass_by _ _ _ _ c.before.before.before.first-formed.ensures c.before.enum_told.given.1 refl),
+      c.loop-rest.invariant.1 ∙ code_turn _ _ c.loop-rest-test.true ∙
+          sym (then_pass_by _ _ _ _ c.first_formed-told.ensures c.in-Accepted.is refl),
     ))
     (λ c. search rules)
     (λ c.
-    then_stop_by _ _ _ _ c.before.before.first-formed.ensures c.enum-told2.given.1 ∙
-    sym (c.before.before.before.before.loop.invariant.1 ∙ code_turn _ _ c.before.before.before.loop-test.true))
-    (λ c. sym (c.before.loop.invariant.1 ∙ code_end _ _ c.loop-test.false)))
+    then_stop_by _ _ _ _ c.first_formed-told.ensures c.in-Refused.is ∙
+    sym (c.loop-rest.invariant.1 ∙ code_turn _ _ c.loop-rest-test.true))
+    (λ c. sym (c.loop-rest.invariant.1 ∙ code_end _ _ c.loop-rest-test.false)))

@@ -12,8 +12,7 @@ laid_spec =
     (tie.spec
     (λ c. search front_length)
     (λ c κs.
-    let s = c.before.before.before.before.before in
-    omega (arith, length-take s.args.at s.args.book.now))
+    omega (arith, length-take c.args.at c.args.book.now))
     (λ c κs. (search rules, search rules, search entry_room))
     (λ c. search rules)
     (λ c. search rules)
@@ -21,9 +20,6 @@ laid_spec =
     (λ c. search rules)
     (λ c. search rules)
     (λ c κs.
-    let e = c.before.before.before.before in
-    let f = e.before.before.before.before in
-    let s = f.before.before.before.before.before.before in
-    rest_room s.args.book.now s.args.at s.args.rec.now _ _ _ s.requires.0 s.requires.3 f.put-bytes.ensures _ _ e.put_entry_lem.ensures)
+    rest_room c.args.book.now c.args.at c.args.rec.now _ _ _ c.requires.0 c.requires.3 c.put_bytes.ensures _ _ c.put_entry.ensures)
     (λ c. search rules)
     (λ c. search book_laid))

@@ -12,7 +12,6 @@ written_spec =
     (tie.spec
     (λ c κs. search rules)
     (λ c κs.
-    let s = c.before.before.before.before.before in
-    (place_starts _ _ _ s.requires.good c.before.place_of.ensures, s.requires.below, (job_size _ s.requires.formed).1, s.requires.fits))
+    (place_starts _ _ _ c.requires.good c.place_of-p.ensures, c.requires.below, (job_size _ c.requires.formed).1, c.requires.fits))
     (λ c. search rules)
     (λ c. search placed_by))

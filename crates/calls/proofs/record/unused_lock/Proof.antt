@@ -1,5 +1,4 @@
 -- Each return is what the definition picks on the way that led there.
-use borrow.Author.Rules.{rules}
 use Rattle.parts.proofs.Laws.{laws}
 use Rattle.calls.proofs.record.unused_lock.Statement.{statement}
 use Rattle.calls.proofs.record.unused_lock.Tie as tie

@@ -11,4 +11,4 @@ holder_of_spec =
     (λ c. search laws)
     (λ c. search rules)
     (λ c κs. search rules)
-    (λ c. simp c.byte.ensures (search laws)))
+    (λ c. simp c.byte-s.ensures (search laws)))

@@ -8,4 +8,4 @@ lock_of_spec =
     tie.close
     (tie.spec
     (λ c κs. search rules)
-    (λ c. simp c.holder-of.ensures))
+    (λ c. simp c.holder_of-h.ensures))

@@ -10,18 +10,18 @@ use Rattle.cells.proofs.Laws.{write_turn, write_end}
 use Rattle.cells.proofs.codes.write.Statement.{statement}
 use Rattle.cells.proofs.codes.write.Tie as tie
 
-abbrev invariant-loop : tie.invariant-loop
-invariant-loop s₀ at n j₀ s j = (j ≤ length n) × (length s ≡ length s₀) × (lay at n s₀ ≡ lay (at + j) (drop j n) s)
+abbrev invariant-loop-j : tie.invariant-loop-j
+invariant-loop-j s₀ at n j₀ s j = (j ≤ length n) × (length s ≡ length s₀) × (lay at n s₀ ≡ lay (at + j) (drop j n) s)
 
-abbrev decreases-loop : tie.decreases-loop
-decreases-loop s₀ at n j₀ s j = length n - j
+abbrev decreases-loop-j : tie.decreases-loop-j
+decreases-loop-j s₀ at n j₀ s j = length n - j
 
 pub write_spec : {M : Type 1} → statement M
 write_spec =
     tie.close
     (tie.spec
-    invariant-loop
-    decreases-loop
+    invariant-loop-j
+    decreases-loop-j
     (λ c. (search rules, refl, simp add-zero))
     (λ c. search rules)
     (λ c. search rules)

@@ -9,4 +9,4 @@ added_spec =
     (tie.spec
     (λ c κs. search rules)
     (λ c. search rules)
-    (λ c. simp c.before.reply.ensures))
+    (λ c. simp c.reply-r.ensures))

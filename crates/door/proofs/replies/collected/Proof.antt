@@ -15,4 +15,4 @@ collected_spec =
     (λ c κs. search rules)
     (λ c κs. search rules)
     (λ c. simp c.number.ensures (search (at_case collected_fields)))
-    (λ c. simp (c.no_answer.ensures, c.before.refusal-reply.ensures) (search (at_case collected_fields))))
+    (λ c. simp (c.no_answer.ensures, c.refusal_reply.ensures) (search (at_case collected_fields))))

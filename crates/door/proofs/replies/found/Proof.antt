@@ -10,4 +10,4 @@ found_spec =
     (λ c κs. search rules)
     (λ c. search rules)
     (λ c. search rules)
-    (λ c. simp c.before.before.reply.ensures))
+    (λ c. simp c.reply-r.ensures))

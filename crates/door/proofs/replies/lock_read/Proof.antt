@@ -14,5 +14,5 @@ lock_read_spec =
     (λ c. search rules)
     (λ c κs. search rules)
     (λ c κs. search rules)
-    (λ c. simp c.lock-fields.ensures (search (at_case lock_fields)))
-    (λ c. simp (c.no_lock_lem.ensures, c.before.refusal-reply.ensures) (search (at_case lock_fields))))
+    (λ c. simp c.lock_fields.ensures (search (at_case lock_fields)))
+    (λ c. simp (c.no_lock.ensures, c.refusal_reply.ensures) (search (at_case lock_fields))))

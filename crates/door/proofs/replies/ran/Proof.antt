@@ -15,5 +15,5 @@ ran_spec =
     (λ c. search rules)
     (λ c κs. search rules)
     (λ c κs. search rules)
-    (λ c. simp c.ran-number.ensures (search (at_case plain_fields)))
-    (λ c. simp (c.no_run.ensures, c.before.refusal-reply.ensures) (search (at_case plain_fields))))
+    (λ c. simp c.ran_number.ensures (search (at_case plain_fields)))
+    (λ c. simp (c.no_run.ensures, c.refusal_reply.ensures) (search (at_case plain_fields))))

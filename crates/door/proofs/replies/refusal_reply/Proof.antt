@@ -12,4 +12,4 @@ refusal_reply_spec =
     (λ c κs. search rules)
     (λ c κs. search rules)
     (λ c. search rules)
-    (λ c. simp (c.place.ensures, c.before.number.ensures)))
+    (λ c. simp (c.place-place.ensures, c.number-number.ensures)))

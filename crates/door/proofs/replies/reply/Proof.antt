@@ -13,4 +13,4 @@ reply_spec =
     (λ c. search rules)
     (λ c κs. search rules)
     (λ c. search (at_case told_fields))
-    (λ c. simp c.refusal-reply.ensures (search (at_case told_fields))))
+    (λ c. simp c.refusal_reply.ensures (search (at_case told_fields))))

@@ -15,4 +15,4 @@ word_read_spec =
     (λ c κs. search rules)
     (λ c κs. search rules)
     (λ c. search (at_case word_fields))
-    (λ c. simp (c.no_word.ensures, c.before.refusal-reply.ensures) (search (at_case word_fields))))
+    (λ c. simp (c.no_word.ensures, c.refusal_reply.ensures) (search (at_case word_fields))))

@@ -15,4 +15,4 @@ wrote_spec =
     (λ c κs. search rules)
     (λ c κs. search rules)
     (λ c. search (at_case wrote_fields))
-    (λ c. simp (c.no_bytes.ensures, c.before.refusal-reply.ensures) (search (at_case wrote_fields))))
+    (λ c. simp (c.no_bytes.ensures, c.refusal_reply.ensures) (search (at_case wrote_fields))))

@@ -26,4 +26,4 @@ begun_spec =
     (λ c. search rules)
     (λ c. search rules)
     (λ c. search rules)
-    (λ c. simp (c.begin.ensures, c.before.before.log-emptied.ensures, c.before.before.before.before.program-laid.ensures, c.before.before.before.before.before.program-emptied.ensures, part_end, instrs_length)))
+    (λ c. simp (c.begin-next.ensures, c.log_emptied-emptied.ensures, c.program_laid-laid.ensures, c.program_emptied-cleared.ensures, part_end, instrs_length)))

@@ -25,5 +25,5 @@ drop_spec =
     (λ c κs. search rules)
     (λ c κs. search rules)
     (λ c. search (told_refused WorkerIdle, order, laws, states) depth 8)
-    (λ c. simp (c.with-worker.ensures, c.before.drop.ensures) (search (told_accepted, order, laws, states) depth 8))
-    (λ c. simp (c.with-worker2.ensures, c.before.drop2.ensures) (search (told_accepted, order, laws, states) depth 8)))
+    (λ c. simp (c.with_worker.ensures, c.drop.ensures) (search (told_accepted, order, laws, states) depth 8))
+    (λ c. simp (c.with_worker-in-Finished.ensures, c.drop-in-Finished.ensures) (search (told_accepted, order, laws, states) depth 8)))

@@ -15,5 +15,4 @@ fresh_spec =
     (λ c. search rules)
     (λ c. search rules)
     (λ c.
-    let b = c.before.before in
-    simp (b.before.before.words-in.ensures, b.before.locks-in.ensures, b.blank.ensures)))
+    simp (c.words_in-word.ensures, c.locks_in-lock.ensures, c.blank-e.ensures)))

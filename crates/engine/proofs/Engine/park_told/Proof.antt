@@ -12,4 +12,4 @@ park_told_spec =
     (λ c κs. search rules)
     (λ c κs. search rules)
     (λ c κs. search rules)
-    (λ c. simp (← c.before.word_count.ensures, ← c.before.before.lock-count.ensures) c.order-told.ensures))
+    (λ c. simp (← c.word_count-w.ensures, ← c.lock_count-l.ensures) c.order_told.ensures))

@@ -16,4 +16,4 @@ places_spec =
     (λ c. search rules)
     (λ c. search rules)
     (λ c κs. search rules)
-    (λ c. (simp (c.placed.ensures.0, c.before.before.instr_at_lem.ensures.0, c.before.before.before.spot.ensures), c.placed.ensures.1)))
+    (λ c. (simp (c.placed.ensures.0, c.instr_at-instr.ensures.0, c.spot-spot.ensures), c.placed.ensures.1)))

@@ -11,4 +11,4 @@ put_job_spec =
     (λ c. search rules)
     (λ c κs. search rules)
     (λ c. search rules)
-    (λ c. simp (← c.before.before.before.before.before.program-length.ensures) c.before.before.put-program.ensures))
+    (λ c. simp (← c.program_length-n.ensures) c.put_program.ensures))

@@ -12,5 +12,5 @@ put_state_spec =
     (λ c κs. search rules)
     (λ c. search rules)
     (λ c.
-    simp (← c.before.before.before.before.word_count.ensures, ← c.before.before.before.before.before.lock-count.ensures)
-    c.before.before.put-setup.ensures))
+    simp (← c.word_count-w.ensures, ← c.lock_count-l.ensures)
+    c.put_setup.ensures))

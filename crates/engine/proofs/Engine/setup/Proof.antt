@@ -16,6 +16,6 @@ setup_spec =
     (λ c. search rules)
     (λ c κs. search rules)
     (λ c. search rules)
-    (λ c κs. setup_sized _ (sym c.before.before.setup-told.ensures ∙ c.enum-told2.given.1))
-    (λ c. simp (c.blank.ensures, c.before.enum_told.given.1) (search told_stop))
+    (λ c κs. setup_sized _ (sym c.setup_told-told.ensures ∙ c.in-Accepted.is))
+    (λ c. simp (c.blank.ensures, c.in-Refused.is) (search told_stop))
     (λ c. simp c.fresh.ensures (search told_pass)))

@@ -14,7 +14,7 @@ show_spec =
     (λ c κs. search rules)
     (λ c. search rules)
     (λ c. search rules)
-    (λ c κs. show_room _ _ _ _ c.before.before.before.show-told.ensures c.before.enum_told.given.1)
+    (λ c κs. show_room _ _ _ _ c.show_told-told.ensures c.in-Accepted.is)
     (λ c. search told_stop)
     (λ c. search rules)
     (λ c. search told_pass))

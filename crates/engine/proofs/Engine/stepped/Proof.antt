@@ -8,7 +8,7 @@ stepped_spec =
     tie.close
     (tie.spec
     (λ c κs. search rules)
-    (λ c κs. c.places.ensures.1)
+    (λ c κs. c.places-at.ensures.1)
     (λ c κs. search rules)
-    (λ c κs. c.before.before.places.ensures.1)
-    (λ c. simp (c.put.ensures, c.before.step.ensures, c.before.before.view.ensures, c.before.before.before.places.ensures.0)))
+    (λ c κs. c.places-at.ensures.1)
+    (λ c. simp (c.put.ensures, c.step.ensures, c.view-v.ensures, c.places-at.ensures.0)))

@@ -11,9 +11,8 @@ taken_spec =
     tie.close
     (tie.spec
     (λ c κs. search rules)
-    (λ c. omega (arith, c.before.before.before.before.requires.lock))
+    (λ c. omega (arith, c.requires.lock))
     (λ c κs.
-    let p = c.before.before.before.before.requires in
-    let n = job_size _ _ _ p.job in
-    (p.worker, rw c.free-sheet.ensures (taken_one _ _), omega (arith, n), omega (arith, n)))
-    (λ c. simp (c.begun.ensures, c.before.free-sheet.ensures)))
+    let n = job_size _ _ _ c.requires.job in
+    (c.requires.worker, rw c.free_sheet-s.ensures (taken_one _ _), omega (arith, n), omega (arith, n)))
+    (λ c. simp (c.begun.ensures, c.free_sheet-s.ensures)))

@@ -13,4 +13,4 @@ placed_spec =
     (λ c κs. search rules)
     (λ c. search rules)
     (λ c. search rules)
-    (λ c. (simp (c.before.word.ensures, c.before.before.entry_at.ensures.0, c.before.before.before.instr_at_lem.ensures.0), search rules)))
+    (λ c. (simp (c.word-word.ensures, c.entry_at-entry.ensures.0, c.instr_at-instr.ensures.0), search rules)))

@@ -20,4 +20,4 @@ put_job_spec =
     (λ c. search rules)
     (λ c κs. search (code_room, rules) depth 8)
     (λ c. search rules)
-    (λ c. (search (job_laid, rules) depth 8, let l : length c.put-bytes.new.1.0 ≡ 260 = search rules in search job_room)))
+    (λ c. (search (job_laid, rules) depth 8, let l : length c.put_bytes.new.buf ≡ 260 = search rules in search job_room)))

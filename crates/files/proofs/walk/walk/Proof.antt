@@ -7,18 +7,18 @@ use Rattle.files.proofs.Walks.{Left, left_start, left_end, left_end_state, line_
 use Rattle.files.proofs.walk.walk.Statement.{statement}
 use Rattle.files.proofs.walk.walk.Tie as tie
 
-abbrev invariant-loop : tie.invariant-loop
-invariant-loop file from out₀ engine₀ place₀ index₀ at₀ out engine place index at = Left file (lines_text 0 (walk_from 0 engine₀ (drop from file)).lines) out₀ (walk_from 0 engine₀ (drop from file)).engine engine place index at out
+abbrev invariant-loop-place : tie.invariant-loop-place
+invariant-loop-place file from out₀ engine₀ place₀ index₀ at₀ out engine place index at = Left file (lines_text 0 (walk_from 0 engine₀ (drop from file)).lines) out₀ (walk_from 0 engine₀ (drop from file)).engine engine place index at out
 
-abbrev decreases-loop : tie.decreases-loop
-decreases-loop file from out₀ engine₀ place₀ index₀ at₀ out engine place index at = length file - place
+abbrev decreases-loop-place : tie.decreases-loop-place
+decreases-loop-place file from out₀ engine₀ place₀ index₀ at₀ out engine place index at = length file - place
 
 pub walk_spec : {M : Type 1} → statement M
 walk_spec =
     tie.close
     (tie.spec
-    invariant-loop
-    decreases-loop
+    invariant-loop-place
+    decreases-loop-place
     (λ c. search left_start)
     (λ c κs. search rules)
     (λ c. search rules)

@@ -13,34 +13,33 @@ use Rattle.cells.proofs.Unpack.{unpack_whole}
 use Rattle.lent_in.proofs.check.guards_of.Statement.{statement}
 use Rattle.lent_in.proofs.check.guards_of.Tie as tie
 
-abbrev invariant-loop : tie.invariant-loop
-invariant-loop s out₀ j₀ out j =
+abbrev invariant-loop-j : tie.invariant-loop-j
+invariant-loop-j s out₀ j₀ out j =
     (j ≤ most_words) × (guards_of (unpack s).word ≡ lay j (guards_of (drop j (take most_words (unpack s).word))) out)
 
-abbrev decreases-loop : tie.decreases-loop
-decreases-loop s out₀ j₀ out j = most_words - j
+abbrev decreases-loop-j : tie.decreases-loop-j
+decreases-loop-j s out₀ j₀ out j = most_words - j
 
 pub guards_of_spec : {M : Type 1} → statement M
 guards_of_spec =
     tie.close
     (tie.spec
-    invariant-loop
-    decreases-loop
+    invariant-loop-j
+    decreases-loop-j
     (λ c.
-    let s = c.before.args.s.now in
+    let s = c.args.s.now in
     (search rules, map-start _ (unpack s).word _ most_words (unpack_whole s).word refl))
     (λ c κs. search rules)
     (λ c. search rules)
     (λ c. search rules)
     (λ c. search rules)
     (λ c.
-    let l = c.before.before in
-    let s = l.before.before.args.s.now in
+    let s = c.args.s.now in
     let n : most_words ≤ length (unpack s).word = omega (arith, (unpack_whole s).word) in (
       omega arith,
-      simp c.get-word.ensures (map_turn _ _ _ (unpack s).word _ _ most_words _ _ l.loop.invariant.1 refl c.before.loop-test.true n),
+      simp c.get_word-w.ensures (map_turn _ _ _ (unpack s).word _ _ most_words _ _ c.loop-j.invariant.1 refl c.loop-j-test.true n),
     ))
     (λ c.
-    let s = c.before.before.before.args.s.now in
+    let s = c.args.s.now in
     let n : most_words ≤ length (unpack s).word = omega (arith, (unpack_whole s).word) in
-    first_done guards_of _ _ (unpack s).word _ most_words _ refl c.before.loop.invariant.1 c.loop-test.false n))
+    first_done guards_of _ _ (unpack s).word _ most_words _ refl c.loop-j.invariant.1 c.loop-j-test.false n))

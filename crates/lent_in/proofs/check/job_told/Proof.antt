@@ -17,9 +17,9 @@ job_told_spec =
     (λ c κs. search rules)
     (λ c. search rules)
     (λ c.
-    let n = c.before.word_count.result in
-    let all : length c.before.before.guards-of.result ≡ 64 = search rules in
-    let few : n ≤ length c.before.before.guards-of.result = omega (arith, c.before.word_count.ensures) in
+    let n = c.word_count-n.result in
+    let all : length c.guards_of-guards.result ≡ 64 = search rules in
+    let few : n ≤ length c.guards_of-guards.result = omega (arith, c.word_count-n.ensures) in
     sym (length-take-le n _ few))
     (λ c κs. search rules)
-    (λ c. job_for _ _ _ _ _ _ _ c.job-told.ensures c.before.before.word_count.ensures c.before.before.before.guards-of.ensures))
+    (λ c. job_for _ _ _ _ _ _ _ c.job_told.ensures c.word_count-n.ensures c.guards_of-guards.ensures))

@@ -17,7 +17,4 @@ begun_spec =
     (λ c κs. search rules)
     (λ c. search rules)
     (λ c.
-    let l = c.before.before.before in
-    let x = l.before.before.before.before in
-    let b = x.before.before.before.before in
-    begun_by _ _ _ _ _ _ _ _ _ _ (search rules) l.looking.ensures b.copied.ensures refl x.put-sheet.ensures c.before.before.put-worker.ensures))
+    begun_by _ _ _ _ _ _ _ _ _ _ (search rules) c.looking.ensures c.copied.ensures refl c.put_sheet.ensures c.put_worker.ensures))

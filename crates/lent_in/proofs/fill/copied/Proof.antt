@@ -17,6 +17,5 @@ copied_spec =
     (λ c κs. search rules)
     (λ c. search rules)
     (λ c.
-    let b = c.before.before.before.before.before.before in
-    copied_by _ _ _ _ _ _ b.before.before.before.before.before.no_program.ensures b.program.ensures
-    c.before.before.no-log.ensures))
+    copied_by _ _ _ _ _ _ c.no_program.ensures c.program.ensures
+    c.no_log.ensures))

@@ -29,7 +29,4 @@ filled_spec =
     (λ c κs. search rules)
     (λ c. search rules)
     (λ c.
-    let k = c.before.before in
-    let w = k.before.before.before.before.before in
-    let z = w.before.before.before.before.before.before in
-    filled_by_lem _ _ _ _ _ _ z.before.before.before.before.wide.ensures z.put-sizes.ensures w.words.ensures k.locks.ensures))
+    filled_by_lem _ _ _ _ _ _ c.wide-n.ensures c.put_sizes.ensures c.words.ensures c.locks.ensures))

@@ -11,8 +11,7 @@ taken_spec =
     (tie.spec
     (λ c. search rules)
     (λ c κs.
-    let p = c.before.before.before.requires in
-    let n = job_size _ _ _ p.1.job in
-    (p.0, p.1.worker, p.2, omega (arith, n), omega (arith, n), p.1.idle))
+    let n = job_size _ _ _ c.requires.1.job in
+    (c.requires.0, c.requires.1.worker, c.requires.2, omega (arith, n), omega (arith, n), c.requires.1.idle))
     (λ c. search rules)
     (λ c. search rules))

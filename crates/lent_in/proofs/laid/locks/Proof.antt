@@ -14,20 +14,20 @@ use Rattle.lent_in.proofs.Loops.{Left, lays_locks, walk_turn, laid_end}
 use Rattle.lent_in.proofs.laid.locks.Statement.{statement}
 use Rattle.lent_in.proofs.laid.locks.Tie as tie
 
-abbrev invariant-loop : tie.invariant-loop
-invariant-loop s₀ turns rest₀ j₀ s rest j =
+abbrev invariant-loop-rest : tie.invariant-loop-rest
+invariant-loop-rest s₀ turns rest₀ j₀ s rest j =
     (length rest + 4 * j ≡ length turns) × (length s ≡ length s₀) ×
     Left lock_part lay_locks s₀ 0 (map free_at (u32s_of turns)) s j (map free_at (u32s_of rest))
 
-abbrev decreases-loop : tie.decreases-loop
-decreases-loop s₀ turns rest₀ j₀ s rest j = length rest
+abbrev decreases-loop-rest : tie.decreases-loop-rest
+decreases-loop-rest s₀ turns rest₀ j₀ s rest j = length rest
 
 pub locks_spec : {M : Type 1} → statement M
 locks_spec =
     tie.close
     (tie.spec
-    invariant-loop
-    decreases-loop
+    invariant-loop-rest
+    decreases-loop-rest
     (λ c. (omega arith, refl, (refl, refl)))
     (λ c κs. search rules)
     (λ c κs. search rules)
@@ -36,13 +36,11 @@ locks_spec =
     (λ c. search rules)
     (λ c. search rules)
     (λ c. search rules)
-    (λ c.
-    let b = c.before.before.before in
-    let l = b.before.before.before in (
+    (λ c. (
       omega arith,
       search rules,
-      walk_turn lays_locks (λ r. map free_at (u32s_of r)) _ _ _ _ _ _ _ _ _ l.before.loop.invariant.2 b.put_lock_lem.ensures
-          (lock_next _ _ b.before.before.u32-at.ensures l.loop-test.true) refl,
+      walk_turn lays_locks (λ r. map free_at (u32s_of r)) _ _ _ _ _ _ _ _ _ c.loop-rest.invariant.2 c.put_lock.ensures
+          (lock_next _ _ c.u32_at.ensures c.loop-rest-test.true) refl,
     ))
     (λ c. search rules)
-    (λ c. laid_end lays_locks _ _ _ _ _ _ c.before.loop.invariant.2 (lock_none _ c.loop-test.false)))
+    (λ c. laid_end lays_locks _ _ _ _ _ _ c.loop-rest.invariant.2 (lock_none _ c.loop-rest-test.false)))

@@ -14,20 +14,20 @@ use Rattle.lent_in.proofs.Loops.{Left, lays_log, laid_turn, laid_end}
 use Rattle.lent_in.proofs.laid.no_log.Statement.{statement}
 use Rattle.lent_in.proofs.laid.no_log.Tie as tie
 
-abbrev invariant-loop : tie.invariant-loop
-invariant-loop s₀ base j₀ s j =
+abbrev invariant-loop-j : tie.invariant-loop-j
+invariant-loop-j s₀ base j₀ s j =
     (j ≤ instructions) × (length s ≡ length s₀) ×
     Left entry_part lay_log s₀ base (replicate instructions entry0) s (base + j) (replicate (instructions - j) entry0)
 
-abbrev decreases-loop : tie.decreases-loop
-decreases-loop s₀ base j₀ s j = instructions - j
+abbrev decreases-loop-j : tie.decreases-loop-j
+decreases-loop-j s₀ base j₀ s j = instructions - j
 
 pub no_log_spec : {M : Type 1} → statement M
 no_log_spec =
     tie.close
     (tie.spec
-    invariant-loop
-    decreases-loop
+    invariant-loop-j
+    decreases-loop-j
     (λ c. (search rules, refl, (simp add-zero, simp add-zero)))
     (λ c. search rules)
     (λ c κs. search rules)
@@ -36,8 +36,8 @@ no_log_spec =
     (λ c. (
       omega arith,
       search rules,
-      laid_turn lays_log _ _ _ _ _ _ _ _ _ _ c.before.before.before.before.before.loop.invariant.2
-          c.before.before.put_entry_lem.ensures (fill_next _ _ _ c.before.before.before.before.loop-test.true) (omega arith),
+      laid_turn lays_log _ _ _ _ _ _ _ _ _ _ c.loop-j.invariant.2
+          c.put_entry.ensures (fill_next _ _ _ c.loop-j-test.true) (omega arith),
     ))
     (λ c. search rules)
-    (λ c. laid_end lays_log _ _ _ _ _ _ c.before.loop.invariant.2 (fill_none _ _ _ c.loop-test.false)))
+    (λ c. laid_end lays_log _ _ _ _ _ _ c.loop-j.invariant.2 (fill_none _ _ _ c.loop-j-test.false)))

@@ -13,20 +13,20 @@ use Rattle.lent_in.proofs.Loops.{Left, lays_program, walk_turn, laid_end}
 use Rattle.lent_in.proofs.laid.program.Statement.{statement}
 use Rattle.lent_in.proofs.laid.program.Tie as tie
 
-abbrev invariant-loop : tie.invariant-loop
-invariant-loop s₀ base code rest₀ j₀ s rest j =
+abbrev invariant-loop-rest : tie.invariant-loop-rest
+invariant-loop-rest s₀ base code rest₀ j₀ s rest j =
     (length rest + 4 * j ≡ length code) × (length s ≡ length s₀) ×
     Left instr_part lay_program s₀ base (instrs_of code) s (base + j) (instrs_of rest)
 
-abbrev decreases-loop : tie.decreases-loop
-decreases-loop s₀ base code rest₀ j₀ s rest j = length rest
+abbrev decreases-loop-rest : tie.decreases-loop-rest
+decreases-loop-rest s₀ base code rest₀ j₀ s rest j = length rest
 
 pub program_spec : {M : Type 1} → statement M
 program_spec =
     tie.close
     (tie.spec
-    invariant-loop
-    decreases-loop
+    invariant-loop-rest
+    decreases-loop-rest
     (λ c. (omega arith, refl, (simp add-zero, simp add-zero)))
     (λ c κs. search rules)
     (λ c. search rules)
@@ -36,13 +36,11 @@ program_spec =
     (λ c. search rules)
     (λ c. search rules)
     (λ c. search rules)
-    (λ c.
-    let b = c.before.before.before in
-    let l = b.before.before.before in (
+    (λ c. (
       omega arith,
       search rules,
-      walk_turn lays_program instrs_of _ _ _ _ _ _ _ _ _ l.before.loop.invariant.2 b.put-instr.ensures
-          (instrs_turn _ l.loop-test.true ∙ simp (← b.before.before.first-instr.ensures)) (omega arith),
+      walk_turn lays_program instrs_of _ _ _ _ _ _ _ _ _ c.loop-rest.invariant.2 c.put_instr.ensures
+          (instrs_turn _ c.loop-rest-test.true ∙ simp (← c.first_instr-x.ensures)) (omega arith),
     ))
     (λ c. search rules)
-    (λ c. laid_end lays_program _ _ _ _ _ _ c.before.loop.invariant.2 (instrs_short _ c.loop-test.false)))
+    (λ c. laid_end lays_program _ _ _ _ _ _ c.loop-rest.invariant.2 (instrs_short _ c.loop-rest-test.false)))

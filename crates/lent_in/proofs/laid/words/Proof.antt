@@ -13,20 +13,20 @@ use Rattle.lent_in.proofs.Loops.{Left, lays_words, laid_turn, laid_end}
 use Rattle.lent_in.proofs.laid.words.Statement.{statement}
 use Rattle.lent_in.proofs.laid.words.Tie as tie
 
-abbrev invariant-loop : tie.invariant-loop
-invariant-loop s₀ guards values j₀ s j =
+abbrev invariant-loop-j : tie.invariant-loop-j
+invariant-loop-j s₀ guards values j₀ s j =
     (j ≤ length guards) × (length s ≡ length s₀) ×
     Left word_part lay_words s₀ 0 (words_from guards (u32s_of values)) s j (words_from (drop j guards) (u32s_of (drop (4 * j) values)))
 
-abbrev decreases-loop : tie.decreases-loop
-decreases-loop s₀ guards values j₀ s j = length guards - j
+abbrev decreases-loop-j : tie.decreases-loop-j
+decreases-loop-j s₀ guards values j₀ s j = length guards - j
 
 pub words_spec : {M : Type 1} → statement M
 words_spec =
     tie.close
     (tie.spec
-    invariant-loop
-    decreases-loop
+    invariant-loop-j
+    decreases-loop-j
     (λ c. (search rules, refl, (refl, refl)))
     (λ c. search rules)
     (λ c κs. search rules)
@@ -34,13 +34,11 @@ words_spec =
     (λ c κs. search rules)
     (λ c. search rules)
     (λ c. search rules)
-    (λ c.
-    let b = c.before.before in
-    let v = b.before.before.before in (
+    (λ c. (
       omega arith,
       search rules,
-      laid_turn lays_words _ _ _ _ _ _ _ _ _ _ v.before.before.loop.invariant.2 b.put_word.ensures
-          (words_next _ _ _ _ v.u32-at.ensures v.before.loop-test.true (search rules)) refl,
+      laid_turn lays_words _ _ _ _ _ _ _ _ _ _ c.loop-j.invariant.2 c.put_word.ensures
+          (words_next _ _ _ _ c.u32_at.ensures c.loop-j-test.true (search rules)) refl,
     ))
     (λ c. search rules)
-    (λ c. laid_end lays_words _ _ _ _ _ _ c.before.loop.invariant.2 (words_none _ _ _ c.loop-test.false)))
+    (λ c. laid_end lays_words _ _ _ _ _ _ c.loop-j.invariant.2 (words_none _ _ _ c.loop-j-test.false)))

@@ -10,4 +10,4 @@ entry_place_spec =
     (λ c κs. search rules)
     (λ c κs. search rules)
     (λ c κs. search rules)
-    (λ c. (simp (c.entry_at.ensures.0, c.before.spot.ensures, c.before.before.get-run.ensures), search rules)))
+    (λ c. (simp (c.entry_at.ensures.0, c.spot.ensures, c.get_run-run.ensures), search rules)))

@@ -13,4 +13,4 @@ instr_spec =
     (λ c κs. search rules)
     (λ c κs. search rules)
     (λ c κs. search rules)
-    (λ c. simp (c.get-instr.ensures, c.before.instr_at_lem.ensures.0, c.before.before.spot.ensures, c.before.before.before.get-run.ensures)))
+    (λ c. simp (c.get_instr.ensures, c.instr_at-j.ensures.0, c.spot.ensures, c.get_run-run.ensures)))

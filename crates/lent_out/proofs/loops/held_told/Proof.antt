@@ -12,35 +12,34 @@ use Rattle.lent_out.proofs.Laws.{whole, holder_is}
 use Rattle.lent_out.proofs.loops.held_told.Statement.{statement}
 use Rattle.lent_out.proofs.loops.held_told.Tie as tie
 
-abbrev invariant-loop : tie.invariant-loop
-invariant-loop s n j₀ j =
+abbrev invariant-loop-j : tie.invariant-loop-j
+invariant-loop-j s n j₀ j =
     (j ≤ n) × (n ≤ length (unpack s).lock) ×
     (held_told (take n (unpack s).lock) 0 ≡ held_told (drop j (take n (unpack s).lock)) j)
 
-abbrev decreases-loop : tie.decreases-loop
-decreases-loop s n j₀ j = n - j
+abbrev decreases-loop-j : tie.decreases-loop-j
+decreases-loop-j s n j₀ j = n - j
 
 pub held_told_spec : {M : Type 1} → statement M
 held_told_spec =
     tie.close
     (tie.spec
-    invariant-loop
-    decreases-loop
+    invariant-loop-j
+    decreases-loop-j
     (λ c. (search rules, simp whole (search rules), refl))
     (λ c κs. search rules)
     (λ c. search rules)
     (λ c. search rules)
     (λ c. search rules)
-    (λ c. let from = c.before.before.before.before in (
+    (λ c. (
       omega arith,
-      from.loop.invariant.1,
-      held_turn _ _ _ _ lock0 from.loop.invariant.2
-          (holder_is _ _ _ c.before.before.get-lock.ensures c.enum_told.given.1)
-          c.before.before.before.loop-test.true from.loop.invariant.1,
+      c.loop-j.invariant.1,
+      held_turn _ _ _ _ lock0 c.loop-j.invariant.2
+          (holder_is _ _ _ c.get_lock-l.ensures c.in-Free.is)
+          c.loop-j-test.true c.loop-j.invariant.1,
     ))
     (λ c. search rules)
-    (λ c. let from = c.before.before.before.before in
-    held_stop _ _ _ _ _ lock0 from.loop.invariant.2
-    (holder_is _ _ _ c.before.before.get-lock.ensures c.enum-told2.given.1)
-    c.before.before.before.loop-test.true from.loop.invariant.1)
-    (λ c. held_end _ _ _ _ c.before.loop.invariant.2 c.loop-test.false c.before.loop.invariant.1))
+    (λ c. held_stop _ _ _ _ _ lock0 c.loop-j.invariant.2
+    (holder_is _ _ _ c.get_lock-l.ensures c.in-By.is)
+    c.loop-j-test.true c.loop-j.invariant.1)
+    (λ c. held_end _ _ _ _ c.loop-j.invariant.2 c.loop-j-test.false c.loop-j.invariant.1))

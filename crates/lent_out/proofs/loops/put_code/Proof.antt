@@ -13,22 +13,22 @@ use Rattle.lent_out.proofs.Laws.{whole, code_lent}
 use Rattle.lent_out.proofs.loops.put_code.Statement.{statement}
 use Rattle.lent_out.proofs.loops.put_code.Tie as tie
 
-abbrev invariant-loop : tie.invariant-loop
-invariant-loop s base n buf₀ at j₀ buf j =
+abbrev invariant-loop-j : tie.invariant-loop-j
+invariant-loop-j s base n buf₀ at j₀ buf j =
     (j ≤ n) × (base + n ≤ length (unpack s).program) × (length buf ≡ length buf₀) ×
     (lay at (code_bytes (take n (drop base (unpack s).program))) buf₀ ≡
     lay (at + 4 * j) (code_bytes (drop j (take n (drop base (unpack s).program)))) buf)
 
-abbrev decreases-loop : tie.decreases-loop
-decreases-loop s base n buf₀ at j₀ buf j = n - j
+abbrev decreases-loop-j : tie.decreases-loop-j
+decreases-loop-j s base n buf₀ at j₀ buf j = n - j
 
 pub put_code_spec : {M : Type 1} → statement M
 unfolding code_bytes
 put_code_spec =
     tie.close
     (tie.spec
-    invariant-loop
-    decreases-loop
+    invariant-loop-j
+    decreases-loop-j
     (λ c. (search rules, simp whole (search rules), refl, simp add-zero))
     (λ c. search rules)
     (λ c κs. search rules)
@@ -37,13 +37,13 @@ put_code_spec =
     (λ c κs. search rules)
     (λ c. search rules)
     (λ c. search rules)
-    (λ c. let put = c.before.before in let from = put.before.before.before.before in (
+    (λ c. (
       omega arith,
-      from.loop.invariant.1,
-      put.put_four.auto.0 ∙ from.loop.invariant.2,
-      code_lent _ _ _ _ _ _ _ _ _ _ put.before.before.get-instr.ensures from.loop.invariant.3 put.put_four.ensures
-          put.before.before.before.loop-test.true from.loop.invariant.1,
+      c.loop-j.invariant.1,
+      c.put_four.auto.buf ∙ c.loop-j.invariant.2,
+      code_lent _ _ _ _ _ _ _ _ _ _ c.get_instr-i.ensures c.loop-j.invariant.3 c.put_four.ensures
+          c.loop-j-test.true c.loop-j.invariant.1,
     ))
     (λ c. search rules)
-    (λ c. first_done code_bytes _ _ _ _ _ _ refl c.before.loop.invariant.3 c.loop-test.false
-    (fits_from _ _ _ c.before.loop.invariant.1)))
+    (λ c. first_done code_bytes _ _ _ _ _ _ refl c.loop-j.invariant.3 c.loop-j-test.false
+    (fits_from _ _ _ c.loop-j.invariant.1)))

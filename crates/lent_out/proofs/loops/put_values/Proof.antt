@@ -14,22 +14,22 @@ use Rattle.lent_out.proofs.Laws.{whole, four_lent}
 use Rattle.lent_out.proofs.loops.put_values.Statement.{statement}
 use Rattle.lent_out.proofs.loops.put_values.Tie as tie
 
-abbrev invariant-loop : tie.invariant-loop
-invariant-loop s n buf₀ at j₀ buf j =
+abbrev invariant-loop-j : tie.invariant-loop-j
+invariant-loop-j s n buf₀ at j₀ buf j =
     (j ≤ n) × (n ≤ length (unpack s).word) × (length buf ≡ length buf₀) ×
     (lay at (u32s_bytes (values_of (take n (unpack s).word))) buf₀ ≡
     lay (at + 4 * j) (u32s_bytes (values_of (drop j (take n (unpack s).word)))) buf)
 
-abbrev decreases-loop : tie.decreases-loop
-decreases-loop s n buf₀ at j₀ buf j = n - j
+abbrev decreases-loop-j : tie.decreases-loop-j
+decreases-loop-j s n buf₀ at j₀ buf j = n - j
 
 pub put_values_spec : {M : Type 1} → statement M
 unfolding u32s_bytes
 put_values_spec =
     tie.close
     (tie.spec
-    invariant-loop
-    decreases-loop
+    invariant-loop-j
+    decreases-loop-j
     (λ c. (search rules, simp whole (search rules), refl, simp add-zero))
     (λ c κs. search rules)
     (λ c. search rules)
@@ -37,13 +37,13 @@ put_values_spec =
     (λ c κs. search rules)
     (λ c. search rules)
     (λ c. search rules)
-    (λ c. let put = c.before.before in let from = put.before.before.before.before in (
+    (λ c. (
       omega arith,
-      from.loop.invariant.1,
-      put.put-u32.auto.0 ∙ from.loop.invariant.2,
-      four_lent _ _ _ _ _ put.before.before.get-word.ensures put.before.before.before.loop-test.true
-          from.loop.invariant.1 _ _ _ _ _ (u32_fours _) from.loop.invariant.3 put.put-u32.ensures,
+      c.loop-j.invariant.1,
+      c.put_u32.auto.buf ∙ c.loop-j.invariant.2,
+      four_lent _ _ _ _ _ c.get_word-w.ensures c.loop-j-test.true
+          c.loop-j.invariant.1 _ _ _ _ _ (u32_fours _) c.loop-j.invariant.3 c.put_u32.ensures,
     ))
     (λ c. search rules)
-    (λ c. first_done (λ xs. u32s_bytes (values_of xs)) _ _ _ _ _ _ refl c.before.loop.invariant.3 c.loop-test.false
-    c.before.loop.invariant.1))
+    (λ c. first_done (λ xs. u32s_bytes (values_of xs)) _ _ _ _ _ _ refl c.loop-j.invariant.3 c.loop-j-test.false
+    c.loop-j.invariant.1))

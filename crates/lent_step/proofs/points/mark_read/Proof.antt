@@ -16,4 +16,4 @@ mark_read_spec =
     (λ c κs. search rules)
     (λ c κs. search rules)
     (λ c. search rules)
-    (λ c. c.before.before.start_seen.ensures ∙ simp c.before.before.before.before.own.ensures (search laws)))
+    (λ c. c.start_seen.ensures ∙ simp c.own-own.ensures (search laws)))

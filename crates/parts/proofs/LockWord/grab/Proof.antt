@@ -12,7 +12,7 @@ grab_spec =
     (tie.spec
     (λ c. search rules)
     (λ c κs. search rules)
-    (λ c. simp c.wrapping-add-u32.ensures (search laws))
+    (λ c. simp c.wrapping_add_u32-next.ensures (search laws))
     (λ c. search rules)
     (λ c. search laws)
     (λ c. search laws))

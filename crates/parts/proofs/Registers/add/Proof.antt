@@ -11,4 +11,4 @@ add_spec =
     (λ c κs. search rules)
     (λ c κs. search rules)
     (λ c κs. search rules)
-    (λ c. simp (c.with.ensures, c.before.wrapping-add-u32.ensures, c.before.before.get2.ensures, c.before.before.before.get.ensures)))
+    (λ c. simp (c.with.ensures, c.wrapping_add_u32-sum.ensures, c.get-y.ensures, c.get-x.ensures)))

@@ -13,5 +13,5 @@ sub_spec =
     (λ c κs. search rules)
     (λ c κs. search rules)
     (λ c.
-    let less = sub32 _ _ _ c.before.wrapping-sub-u32.type-inv c.before.before.get2.type-inv c.before.wrapping-sub-u32.ensures in
-    simp (c.with.ensures, less, c.before.before.get2.ensures, c.before.before.before.get.ensures)))
+    let less = sub32 _ _ _ c.wrapping_sub_u32-rest.type_inv c.get-y.type_inv c.wrapping_sub_u32-rest.ensures in
+    simp (c.with.ensures, less, c.get-y.ensures, c.get-x.ensures)))

@@ -11,6 +11,6 @@ swap_spec =
     tie.close
     (tie.spec
     (λ c κs. search rules)
-    (λ c. simp c.wrapping-add-u32.ensures (search laws))
+    (λ c. simp c.wrapping_add_u32-next.ensures (search laws))
     (λ c. search laws)
     (λ c. search laws))

@@ -13,4 +13,4 @@ body_told_spec =
     (λ c. search rules)
     (λ c. search rules)
     (λ c κs. search rules)
-    (λ c. c.code-told.ensures ∙ simp (part_end 4 c.before.before.before.before.args.rec.now)))
+    (λ c. c.code_told.ensures ∙ simp (part_end 4 c.args.rec.now)))

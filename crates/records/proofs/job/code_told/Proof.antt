@@ -10,20 +10,20 @@ use Rattle.records.proofs.Laws.{code_turn, code_end}
 use Rattle.records.proofs.job.code_told.Statement.{statement}
 use Rattle.records.proofs.job.code_told.Tie as tie
 
-abbrev invariant-loop : tie.invariant-loop
-invariant-loop code lock guards rest₀ place₀ rest place =
+abbrev invariant-loop-rest : tie.invariant-loop-rest
+invariant-loop-rest code lock guards rest₀ place₀ rest place =
     (length rest + 4 * place ≡ length code) ×
     (code_told (instrs_of code) 0 lock guards ≡ code_told (instrs_of rest) place lock guards)
 
-abbrev decreases-loop : tie.decreases-loop
-decreases-loop code lock guards rest₀ place₀ rest place = length rest
+abbrev decreases-loop-rest : tie.decreases-loop-rest
+decreases-loop-rest code lock guards rest₀ place₀ rest place = length rest
 
 pub code_told_spec : {M : Type 1} → statement M
 code_told_spec =
     tie.close
     (tie.spec
-    invariant-loop
-    decreases-loop
+    invariant-loop-rest
+    decreases-loop-rest
     (λ c. (omega arith, refl))
     (λ c κs. search rules)
     (λ c. search rules)
@@ -34,12 +34,12 @@ code_told_spec =
     (λ c. omega arith)
     (λ c. (
       omega arith,
-      c.before.before.before.before.before.loop.invariant.1 ∙
-          code_turn _ _ _ _ c.before.before.before.before.loop-test.true ∙
-          sym (then_pass_by _ _ _ _ c.before.before.before.first-told.ensures c.before.enum_told.given.1 refl),
+      c.loop-rest.invariant.1 ∙
+          code_turn _ _ _ _ c.loop-rest-test.true ∙
+          sym (then_pass_by _ _ _ _ c.first_told-told.ensures c.in-Accepted.is refl),
     ))
     (λ c. search rules)
     (λ c.
-    then_stop_by _ _ _ _ c.before.before.first-told.ensures c.enum-told2.given.1 ∙
-    sym (c.before.before.before.before.loop.invariant.1 ∙ code_turn _ _ _ _ c.before.before.before.loop-test.true))
-    (λ c. sym (c.before.loop.invariant.1 ∙ code_end _ _ _ _ c.loop-test.false)))
+    then_stop_by _ _ _ _ c.first_told-told.ensures c.in-Refused.is ∙
+    sym (c.loop-rest.invariant.1 ∙ code_turn _ _ _ _ c.loop-rest-test.true))
+    (λ c. sym (c.loop-rest.invariant.1 ∙ code_end _ _ _ _ c.loop-rest-test.false)))

@@ -10,4 +10,4 @@ first_told_spec =
     (λ c κs. search rules)
     (λ c. search rules)
     (λ c κs. search rules)
-    (λ c. simp (c.instr-told.ensures, c.before.first-instr.ensures)))
+    (λ c. simp (c.instr_told.ensures, c.first_instr.ensures)))

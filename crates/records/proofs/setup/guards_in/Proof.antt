@@ -15,5 +15,5 @@ guards_in_spec =
     (λ c. search rules)
     (λ c κs. search rules)
     (λ c.
-    let a = c.before.before.before.args in
-    c.guards-told.ensures ∙ simp (part_of 6 a.w a.rec.now)))
+    let a = c.args in
+    c.guards_told.ensures ∙ simp (part_of 6 a.w a.rec.now)))

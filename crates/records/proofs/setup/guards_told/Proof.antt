@@ -10,31 +10,31 @@ use Rattle.records.proofs.Laws.{guards_turn, guards_end}
 use Rattle.records.proofs.setup.guards_told.Statement.{statement}
 use Rattle.records.proofs.setup.guards_told.Tie as tie
 
-abbrev invariant-loop : tie.invariant-loop
-invariant-loop guards locks j₀ j = (j ≤ length guards) × (guards_told guards locks 6 ≡ guards_told (drop j guards) locks (6 + j))
+abbrev invariant-loop-j : tie.invariant-loop-j
+invariant-loop-j guards locks j₀ j = (j ≤ length guards) × (guards_told guards locks 6 ≡ guards_told (drop j guards) locks (6 + j))
 
-abbrev decreases-loop : tie.decreases-loop
-decreases-loop guards locks j₀ j = length guards - j
+abbrev decreases-loop-j : tie.decreases-loop-j
+decreases-loop-j guards locks j₀ j = length guards - j
 
 pub guards_told_spec : {M : Type 1} → statement M
 guards_told_spec =
     tie.close
     (tie.spec
-    invariant-loop
-    decreases-loop
+    invariant-loop-j
+    decreases-loop-j
     (λ c. (omega arith, refl))
     (λ c. search rules)
     (λ c. omega arith)
     (λ c.
     sym
-    (c.before.before.before.loop.invariant.1 ∙ guards_turn _ _ _ _ c.before.before.loop-test.true ∙
-    simp (le-leb _ _ c.if1.true)))
+    (c.loop-j.invariant.1 ∙ guards_turn _ _ _ _ c.loop-j-test.true ∙
+    simp (le-leb _ _ c.if-locks-guard.true)))
     (λ c. omega arith)
     (λ c. omega arith)
     (λ c. (
       omega arith,
-      c.before.before.before.loop.invariant.1 ∙
-          guards_turn _ _ _ _ c.before.before.loop-test.true ∙
-          simp (lt-leb _ _ c.if1.false),
+      c.loop-j.invariant.1 ∙
+          guards_turn _ _ _ _ c.loop-j-test.true ∙
+          simp (lt-leb _ _ c.if-locks-guard.false),
     ))
-    (λ c. sym (c.before.loop.invariant.1 ∙ guards_end _ _ _ _ c.loop-test.false)))
+    (λ c. sym (c.loop-j.invariant.1 ∙ guards_end _ _ _ _ c.loop-j-test.false)))

@@ -14,5 +14,5 @@ turns_in_spec =
     (λ c. search rules)
     (λ c κs. search rules)
     (λ c.
-    let a = c.before.before.before.args in
-    c.turns-told.ensures ∙ simp (part_end a.from a.rec.now)))
+    let a = c.args in
+    c.turns_told.ensures ∙ simp (part_end a.from a.rec.now)))

@@ -11,25 +11,25 @@ use Rattle.records.proofs.Laws.{turns_turn, turns_end}
 use Rattle.records.proofs.setup.turns_told.Statement.{statement}
 use Rattle.records.proofs.setup.turns_told.Tie as tie
 
-abbrev invariant-loop : tie.invariant-loop
-invariant-loop turns from rest₀ place₀ rest place =
+abbrev invariant-loop-rest : tie.invariant-loop-rest
+invariant-loop-rest turns from rest₀ place₀ rest place =
     (length rest + place ≡ length turns + from) × (turns_told (u32s_of turns) from ≡ turns_told (u32s_of rest) place)
 
-abbrev decreases-loop : tie.decreases-loop
-decreases-loop turns from rest₀ place₀ rest place = length rest
+abbrev decreases-loop-rest : tie.decreases-loop-rest
+decreases-loop-rest turns from rest₀ place₀ rest place = length rest
 
 pub turns_told_spec : {M : Type 1} → statement M
 turns_told_spec =
     tie.close
     (tie.spec
-    invariant-loop
-    decreases-loop
+    invariant-loop-rest
+    decreases-loop-rest
     (λ c. (omega arith, refl))
     (λ c κs. search rules)
     (λ c.
     sym
-    (c.before.before.before.loop.invariant.1 ∙ turns_turn _ _ c.before.before.loop-test.true ∙
-    simp (← c.before.u32-at.ensures, lt-ltb _ _ c.if1.true)))
+    (c.loop-rest.invariant.1 ∙ turns_turn _ _ c.loop-rest-test.true ∙
+    simp (← c.u32_at-turn.ensures, lt-ltb _ _ c.if-turn-gt-LAST_TURN.true)))
     (λ c. search rules)
     (λ c. search rules)
     (λ c. search rules)
@@ -37,8 +37,8 @@ turns_told_spec =
     (λ c. omega arith)
     (λ c. (
       omega arith,
-      c.before.before.before.before.loop.invariant.1 ∙
-          turns_turn _ _ c.before.before.before.loop-test.true ∙
-          simp (← c.before.before.u32-at.ensures, le-ltb _ _ c.before.if1.false),
+      c.loop-rest.invariant.1 ∙
+          turns_turn _ _ c.loop-rest-test.true ∙
+          simp (← c.u32_at-turn.ensures, le-ltb _ _ c.if-turn-gt-LAST_TURN.false),
     ))
-    (λ c. sym (c.before.loop.invariant.1 ∙ turns_end _ _ c.loop-test.false)))
+    (λ c. sym (c.loop-rest.invariant.1 ∙ turns_end _ _ c.loop-rest-test.false)))

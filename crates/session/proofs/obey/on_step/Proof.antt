@@ -8,18 +8,18 @@ use Rattle.session.proofs.Replies.{steps-start, steps_stop, steps_turn, steps_en
 use Rattle.session.proofs.obey.on_step.Statement.{statement}
 use Rattle.session.proofs.obey.on_step.Tie as tie
 
-abbrev invariant-loop : tie.invariant-loop
-invariant-loop engine₀ w n done₀ engine done = (done ≤ n) × (steps_from n engine₀ w 0 ≡ steps_from (n - done) engine w done)
+abbrev invariant-loop-done : tie.invariant-loop-done
+invariant-loop-done engine₀ w n done₀ engine done = (done ≤ n) × (steps_from n engine₀ w 0 ≡ steps_from (n - done) engine w done)
 
-abbrev decreases-loop : tie.decreases-loop
-decreases-loop engine₀ w n done₀ engine done = n - done
+abbrev decreases-loop-done : tie.decreases-loop-done
+decreases-loop-done engine₀ w n done₀ engine done = n - done
 
 pub on_step_spec : {M : Type 1} → statement M
 on_step_spec =
     tie.close
     (tie.spec
-    invariant-loop
-    decreases-loop
+    invariant-loop-done
+    decreases-loop-done
     (λ c. (omega arith, steps-start _ _ _))
     (λ c κs. search rules)
     (λ c. search rules)

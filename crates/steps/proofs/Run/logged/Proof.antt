@@ -8,4 +8,4 @@ logged_spec =
     tie.close
     (tie.spec
     (λ c κs. search rules)
-    (λ c. simp c.wrapping-add-u8.ensures))
+    (λ c. simp c.wrapping_add_u8-next.ensures))

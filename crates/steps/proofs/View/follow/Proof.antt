@@ -16,5 +16,5 @@ follow_spec =
     (λ c κs. search rules)
     (λ c. search rules)
     (λ c κs. search rules)
-    (λ c. simp (c.at.ensures, c.before.onto.ensures) (search asking))
-    (λ c. simp c.at2.ensures (search asking)))
+    (λ c. simp (c.at.ensures, c.onto.ensures) (search asking))
+    (λ c. simp c.at-in-Swap.ensures (search asking)))

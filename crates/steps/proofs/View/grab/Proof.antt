@@ -12,4 +12,4 @@ grab_spec =
     (λ c κs. search rules)
     (λ c κs. search rules)
     (λ c κs. search rules)
-    (λ c. simp (c.at.ensures, c.before.wrapping-add-u32.ensures, c.before.before.grab.ensures)))
+    (λ c. simp (c.at.ensures, c.wrapping_add_u32-won.ensures, c.grab-next.ensures)))

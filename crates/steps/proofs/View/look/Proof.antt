@@ -17,5 +17,5 @@ look_spec =
     (λ c κs. search rules)
     (λ c. simp c.to.ensures (search laws))
     (λ c κs. search rules)
-    (λ c. simp (c.at.ensures, c.before.start.ensures) (search laws))
-    (λ c. simp c.at2.ensures (search laws)))
+    (λ c. simp (c.at.ensures, c.start.ensures) (search laws))
+    (λ c. simp c.at-in-Free.ensures (search laws)))

@@ -20,5 +20,5 @@ read_spec =
     (λ c κs. search rules)
     (λ c κs. search rules)
     (λ c. simp c.at.ensures (search asking))
-    (λ c. simp (c.at2.ensures, c.before.onto.ensures) (search asking))
-    (λ c. simp (c.at3.ensures, c.before.reading.ensures) (search asking)))
+    (λ c. simp (c.at-in-Go.ensures, c.onto.ensures) (search asking))
+    (λ c. simp (c.at-in-Touch.ensures, c.reading.ensures) (search asking)))

@@ -12,4 +12,4 @@ release_spec =
     (λ c κs. search rules)
     (λ c κs. search rules)
     (λ c κs. search rules)
-    (λ c. simp (c.to.ensures, c.before.answer.ensures, c.before.before.before.release.ensures)))
+    (λ c. simp (c.to.ensures, c.answer.ensures, c.release-next.ensures)))

@@ -12,4 +12,4 @@ swap_spec =
     (λ c κs. search rules)
     (λ c κs. search rules)
     (λ c κs. search rules)
-    (λ c. simp (c.at.ensures, c.before.onto.ensures, c.before.before.swap.ensures)))
+    (λ c. simp (c.at.ensures, c.onto.ensures, c.swap-next.ensures)))

@@ -8,4 +8,4 @@ to_spec =
     tie.close
     (tie.spec
     (λ c κs. search rules)
-    (λ c. simp c.moved.ensures))
+    (λ c. simp c.moved-next.ensures))

@@ -8,4 +8,4 @@ moved_spec =
     tie.close
     (tie.spec
     (λ c κs. search rules)
-    (λ c. simp c.wrapping-add-u32.ensures))
+    (λ c. simp c.wrapping_add_u32-n.ensures))
