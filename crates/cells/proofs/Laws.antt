@@ -22,7 +22,7 @@ write_turn goal l xs at j g h =
 pub write_end : (goal l xs : List ℕ) (at j : ℕ) → goal ≡ lay (at + j) (drop j xs) l → length xs ≤ j → l ≡ goal
 write_end goal l xs at j g h = lay_done goal l _ (at + j) (drop_of_length-le xs h) g
 
--- arrays' `fill-turn` from place 0 on
+-- arrays' `fill_turn` from place 0 on
 pub blank_turn :
     (goal l : List ℕ) (n j : ℕ) →
     goal ≡ lay j (replicate (n - j) 0) l →

@@ -14,7 +14,7 @@ use Rattle.door.specs.declared.Reply.{Reply}
 pub if_short : {A : Type 0} (s : List ℕ) (r x y : A) → length s < numbers → r ≡ x → r ≡ unless_short s x y
 if_short s r x y h e = simp (lt-ltb (length s) numbers h) e
 
--- the same through a function f, `search (if-short-by f)`
+-- the same through a function f, `search (if_short_by f)`
 pub if_short_by :
     {A : Type 0} (f : Reply → A) (s : List ℕ) (p : Reply) (r y : A) →
     length s < numbers →
@@ -27,7 +27,7 @@ if_short_by f s p r y h e q = if_short s r (f short_reply) y h (q ∙ ap f e)
 pub if_enough : {A : Type 0} (s : List ℕ) (r x y : A) → numbers ≤ length s → r ≡ y → r ≡ unless_short s x y
 if_enough s r x y h e = simp (le-ltb (length s) numbers h) e
 
--- the same through a function f, `search (if-enough-by f)`: of what the call told
+-- the same through a function f, `search (if_enough_by f)`: of what the call told
 pub if_enough_by :
     {A B : Type 0} (f : A → B) (s : List ℕ) (t u : A) (r x : B) →
     numbers ≤ length s →

@@ -26,7 +26,7 @@ use Rattle.parts.specs.declared.Told.TheVariants.{Accepted, Refused}
 pub told_accepted : {A : Type 0} (t : Told) (x a : A) (f : Refusal → A) → Accepted ≡ t → x ≡ a → x ≡ on_told t a f
 told_accepted t x a f h e = simp (← h) e
 
--- `search (told-refused r)`, with the refusal that the return tells
+-- `search (told_refused r)`, with the refusal that the return tells
 pub told_refused : (r : Refusal) {A : Type 0} (t : Told) (x a : A) (f : Refusal → A) → Refused r ≡ t → x ≡ f r → x ≡ on_told t a f
 told_refused r t x a f h e = simp (← h) e
 

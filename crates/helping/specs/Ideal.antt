@@ -66,7 +66,7 @@ met_of (touch w f) s = s.words w
 abbrev pub met_in : Job → ℕ → Reading
 met_in J n = met_of (act_in J n) (ideal_of J n)
 
--- whether it asks for a word: then its entry is the reading of that word (`met-word`)
+-- whether it asks for a word: then its entry is the reading of that word (`met_word`)
 abbrev pub Touches : Act → Type 0
 Touches (fin said) = ⊥
 Touches (go rs n) = ⊥

@@ -107,7 +107,7 @@ then_pass_by t u v x q h e = simp (sym q ∙ h) e
 pub then_stop_by : (t u v : Told) (r : Refusal) → t ≡ u → t ≡ Refused r → t ≡ (u then v)
 then_stop_by t u v r q h = simp (sym q ∙ h) h
 
--- a function by cases, f, at a value whose case is known: `search (at-case f)`
+-- a function by cases, f, at a value whose case is known: `search (at_case f)`
 pub at_case : {A B : Type 0} (f : A → B) (p q : A) (x : B) → p ≡ q → x ≡ f q → x ≡ f p
 at_case f p q x h e = simp h e
 
