@@ -4,8 +4,8 @@ use mathlib.Core.Path.{◌≡◌, refl, ◌∙◌, sym}
 use mathlib.Core.Bool.{Bool, false}
 use mathlib.Core.List.{List, [], ◌∷◌}
 use native.Mathlib.Omega.{arith}
-use lib.ListN.{length, get_or, set, take, drop, length-drop, drop_of_length-le}
-use lib.Seq.{drop-drop, drop-length, drop-nil}
+use lib.ListN.{length, get_or, set, take, drop}
+use lib.Seq.{drop-drop, drop-nil}
 use Rattle.parts.specs.Instr.{asks_of, follows_of, on_asks, on_follows}
 use Rattle.parts.specs.declared.Asks.{Asks}
 use Rattle.parts.specs.declared.Asks.TheVariants.{Halt, Go, Touch}
@@ -17,26 +17,6 @@ use Rattle.records.specs.Job.{first_instr, instrs_of}
 use Rattle.records.proofs.Fours.{instrs_short, instrs_turn}
 use Rattle.records.proofs.Laws.{part_end}
 use Rattle.alone.specs.Alone.{Left, left_of, touched_registers, touched_words, alone_from}
-
--- the part from the end on, where there are no n to drop
-pub part_none : (n : ℕ) (s : List ℕ) → length s < n → take (length s - length s) (drop (length s) s) ≡ drop n s
-part_none n s h =
-    let z : length s ≤ n = omega arith in
-    part_end (length s) s ∙ drop-length s ∙ sym (drop_of_length-le s z)
-
--- What follows the first instruction is shorter by its four bytes, and a part of that is no longer: the measure falls, and the
--- count has room.
-pub rest_length : (s : List ℕ) → length (take (length s - 4) (drop 4 s)) ≤ length s - 4
-rest_length s = simp (part_end, length-drop) (omega arith)
-
-pub past_length : (n : ℕ) (s p : List ℕ) → p ≡ drop n (take (length s - 4) (drop 4 s)) → length p ≤ length s - 4
-past_length n s p e = simp (e, part_end, length-drop) (omega arith)
-
-pub fewer : (s p : List ℕ) (t : ℕ) → length s ≡ t → 4 ≤ length s → length p ≤ length s - 4 → length p < t
-fewer s p t e h q = omega arith
-
-pub room : (s p : List ℕ) (k most : ℕ) → k + length s < most → 4 ≤ length s → length p ≤ length s - 4 → k + 1 + length p < most
-room s p k most e h q = omega arith
 
 -- what follows the first instruction
 instrs_rest : (n : ℕ) (s : List ℕ) → drop n (instrs_of (drop 4 s)) ≡ drop (suc n) (instrs_of s)
@@ -129,27 +109,5 @@ module _ (s : List ℕ) (r : Registers) (words : List ℕ) (k : ℕ) (h : 4 ≤ 
       g ∙ simp (part_end, n, a, e)
       (sym (simp (alone_turn, t) (touched_on (follows_of (first_instr s) r (get_or words w 0)) r w words on)))
 
--- what follows from a word's value v, which was read, by its case
-module _ {A : Type 0} (i : Instr) (r : Registers) (v value : ℕ) (f : Follows) (x : A) (d : Registers → A) (s : ℕ → A) where
-  pub follows_done :
-      (next : Registers) →
-      f ≡ follows_of i r value →
-      value ≡ v →
-      f ≡ Done next →
-      x ≡ d next →
-      x ≡ on_follows (follows_of i r v) d s
-  follows_done next q e h g = let z : follows_of i r v ≡ Done next = cc in simp z g
-
-  pub follows_swap :
-      (new : ℕ) →
-      f ≡ follows_of i r value →
-      value ≡ v →
-      f ≡ Swap new →
-      x ≡ s new →
-      x ≡ on_follows (follows_of i r v) d s
-  follows_swap new q e h g = let z : follows_of i r v ≡ Swap new = cc in simp z g
-
--- `search` closes what a call of the rest asks by the first, and each return by the second
-pub ruleset falling = (rest_length, past_length, fewer, room)
-
+-- each return of the run
 pub ruleset turns = (alone_end, alone_halt, alone_go, alone_touch)

@@ -19,18 +19,15 @@ pub struct Ran {
 fn word(words: &[u32], w: u8) -> u32
     ensures { result ≡ get_or words.now w 0 }
 {
-    let at = w as usize;
-    if at < words.len() {
-        return words[at];
-    }
-    0
+    words.get(usize::from(w)).copied().unwrap_or(0)
 }
 
 // A word takes a value. What is no word takes none.
+// By index: once a loan by `get_mut` is over, a proof knows no element.
 fn put(words: &mut [u32], w: u8, new: u32)
     ensures { words.new ≡ set words.old w new }
 {
-    let at = w as usize;
+    let at = usize::from(w);
     if at < words.len() {
         words[at] = new;
     }
@@ -42,8 +39,7 @@ fn touch(i: Instr, r: Registers, w: u8, words: &mut [u32]) -> Registers
     ensures stored { words.new ≡ touched_words i r w words.old }
 {
     let value = word(words, w);
-    let f = i.follows(r, value);
-    match f {
+    match i.follows(r, value) {
         Follows::Done(next) => next,
         Follows::Swap(new) => {
             put(words, w, new);
@@ -56,17 +52,13 @@ fn touch(i: Instr, r: Registers, w: u8, words: &mut [u32]) -> Registers
 fn past(code: &[u8], n: u8) -> &[u8]
     ensures { result.now ≡ drop (4 * n) code.now }
 {
-    let at = 4 * (n as usize);
-    if at <= code.len() {
-        return &code[at..];
-    }
-    let end = code.len();
-    &code[end..]
+    code.get(4 * usize::from(n)..).unwrap_or(&[])
 }
 
 // The rest of a program, by its bytes, with the registers and the number executed so far. "A skip goes on with the rest of the
 // program from the instruction reached, and the length of what is left falls." A program that ends with no halt answers no. The
 // count has room: each instruction that it counts takes four bytes off what is left.
+#[tactic(auto, using(crate::proofs::Laws::turns))]
 fn go_on(code: &[u8], r: Registers, words: &mut [u32], k: usize) -> Ran
     requires { k + length code.now < 2 ^ 64 }
     ensures { left_of result.yes result.executed words.new ≡ alone_from zero (instrs_of code.now) r words.old k }
@@ -79,8 +71,7 @@ fn go_on(code: &[u8], r: Registers, words: &mut [u32], k: usize) -> Ran
     }
     let i = records::job::first_instr(code);
     let rest = &code[4..];
-    let asks = i.asks(r);
-    match asks {
+    match i.asks(r) {
         Asks::Halt(yes) => Ran {
             yes,
             executed: k + 1,

@@ -1,26 +1,26 @@
 -- One turn and the end of each loop. What is yet to be laid, or told, is that of the elements from the j-th on.
+use Rattle.std.specs.Prelude.{Err, None, Ok, Some}
 use Prim.Native.Nat.{ℕ, suc, ◌+◌, ◌*◌, ◌-◌, ◌≤◌, ◌<◌}
 use mathlib.Core.Path.{◌≡◌, refl, ◌∙◌, sym, ap}
 use mathlib.Core.List.{List, [], ◌∷◌, ◌++◌, map}
 use native.Mathlib.Nat.{add-zero}
 use native.Mathlib.Numerals.{add-one}
 use native.Mathlib.Omega.{arith}
-use lib.ListN.{length, get_or, take, drop, set, replicate, length-drop, length-map, drop_of_length-le}
+use lib.ListN.{length, get_or, take, drop, set, replicate, length-drop, length-map, length-replicate, drop_of_length-le}
 use lib.Seq.{drop-cons, drop-drop, get_or-drop, get_or-take, length-take-le, take_all}
+use borrow.Rule.Slice.PartMut.{put_mid}
 use Rattle.parts.specs.Lay.{lay}
-use Rattle.parts.specs.declared.Holder.TheVariants.{Free, By}
 use Rattle.parts.specs.declared.LockWord.{LockWord}
 use Rattle.parts.specs.declared.Instr.{Instr}
 use Rattle.parts.specs.declared.Refusal.TheVariants.{Held}
-use Rattle.parts.specs.declared.Told.{Told}
-use Rattle.parts.specs.declared.Told.TheVariants.{Accepted, Refused}
+use Rattle.parts.specs.Told.{Told}
 use Rattle.parts.specs.declared.Word.{Word}
 use Rattle.parts.proofs.Lay.{lay-append, lay_whole, lay_step, lay_done}
 use Rattle.records.specs.Bytes.{u32_of, u32s_of, u32s_bytes}
 use Rattle.records.specs.Job.{code_bytes}
-use Rattle.records.proofs.Fours.{u32s_short, u32s_turn}
-use Rattle.records.proofs.Laws.{part_end}
-use Rattle.arrays.specs.Fresh.{words_from, free_at}
+use Rattle.records.proofs.Fours.{u32s_turn}
+use Rattle.records.proofs.Laws.{part_end, part_laid}
+use Rattle.arrays.specs.Fresh.{words_from}
 use Rattle.arrays.specs.Held.{held_told}
 
 -- of the first n elements, those from the j-th on: the j-th, and those after it; none
@@ -84,17 +84,14 @@ fill_none x n j h =
     let q : n - j ≡ 0 = omega arith in
     ap (λ (m : ℕ). replicate m x) q
 
--- the same element is laid n times
-pub fill_turn :
-    {A : Type 0} (goal l : List A) (x : A) (at n j : ℕ) →
-    goal ≡ lay (at + j) (replicate (n - j) x) l →
-    j < n →
-    goal ≡ lay (at + (j + 1)) (replicate (n - (j + 1)) x) (set l (at + j) x)
-fill_turn goal l x at n j g h =
-    lay_step goal l _ _ (at + j) (at + (j + 1)) x (omega arith) (fill_next x n j h) g
-
-pub fill_end : {A : Type 0} (goal l : List A) (x : A) (at n j : ℕ) → goal ≡ lay at (replicate (n - j) x) l → n ≤ j → l ≡ goal
-fill_end goal l x at n j g h = lay_done goal l _ at (fill_none x n j h) g
+-- a part that is filled
+pub filled :
+    {A : Type 0} (at n : ℕ) (x : A) (ys l : List A) → ys ≡ replicate (length (take (at + n - at) (drop at l))) x →
+    at + n ≤ length l → put_mid at (at + n - at) l ys ≡ lay at (replicate n x) l
+filled at n x ys l e h =
+    let f : at + n - at ≡ n = omega arith in
+    let d : n ≤ length (drop at l) = fits_from at n l h in
+    part_laid at n (replicate n x) ys l (e ∙ simp (f, length-take-le n (drop at l) d)) (length-replicate n x) h
 
 -- f writes a list element by element, four bytes for each
 pub record Fours {A : Type 0} (f : List A → List ℕ) : Type 0 where
@@ -110,6 +107,21 @@ unfolding u32s_bytes
 u32_fours f = record { more = λ x xs. refl; four = λ x. refl }
 
 -- an element's four bytes are laid
+pub fours_laid :
+    {A : Type 0} (f : List A → List ℕ) (goal l next : List ℕ) (x : A) (ys xs : List A) (here after : ℕ) →
+    Fours f →
+    goal ≡ lay here (f ys) l →
+    ys ≡ x ∷ xs →
+    next ≡ lay here (f (x ∷ [])) l →
+    after ≡ here + 4 →
+    goal ≡ lay after (f xs) next
+fours_laid f goal l next x ys xs here after w g h e k =
+    let q : here + length (f (x ∷ [])) ≡ after = omega (arith, w.four x) in
+    g ∙ ap (λ (r : List _). lay here (f r) l) h ∙ ap (λ (r : List ℕ). lay here r l) (w.more x xs) ∙
+    lay-append here (f (x ∷ [])) (f xs) l ∙ ap (λ (m : ℕ). lay m (f xs) (lay here (f (x ∷ [])) l)) q ∙
+    ap (λ (m : List ℕ). lay after (f xs) m) (sym e)
+
+-- of the first n elements, the j-th's are
 pub four_turn :
     {A : Type 0} (f : List A → List ℕ) (goal l next : List ℕ) (xs : List A) (at n j : ℕ) (d : A) →
     Fours f →
@@ -118,14 +130,7 @@ pub four_turn :
     j < n →
     n ≤ length xs →
     goal ≡ lay (at + 4 * (j + 1)) (f (drop (j + 1) (take n xs))) next
-four_turn f goal l next xs at n j d w g e h k =
-    let x = get_or xs j d in
-    let rest = drop (j + 1) (take n xs) in
-    let q : at + 4 * j + length (f (x ∷ [])) ≡ at + 4 * (j + 1) = omega (arith, w.four x) in
-    g ∙ ap (λ (r : List _). lay (at + 4 * j) (f r) l) (first_turn xs n j d h k) ∙
-    ap (λ (r : List ℕ). lay (at + 4 * j) r l) (w.more x rest) ∙ lay-append (at + 4 * j) (f (x ∷ [])) (f rest) l ∙
-    ap (λ (m : ℕ). lay m (f rest) (lay (at + 4 * j) (f (x ∷ [])) l)) q ∙
-    ap (λ (m : List ℕ). lay (at + 4 * (j + 1)) (f rest) m) (sym e)
+four_turn f goal l next xs at n j d w g e h k = fours_laid f goal l next _ _ _ _ _ w g (first_turn xs n j d h k) e (omega arith)
 
 -- the same, of the instructions from `base` on
 pub code_put :
@@ -140,6 +145,17 @@ code_put goal l next program base at n j d g e h k =
     (e ∙ ap (λ (x : Instr). lay (at + 4 * j) (code_bytes (x ∷ [])) l) (sym (get_or-drop base program j d))) h
     (fits_from base n program k)
 
+-- what f makes of the first four bytes is laid at `place`
+pub turn_laid :
+    {A : Type 0} (f : List ℕ → List A) (goal l : List A) (s rest : List ℕ) (here place next : ℕ) (x : A) →
+    goal ≡ lay here (f s) l →
+    f s ≡ x ∷ f rest →
+    place ≡ here →
+    next ≡ here + 1 →
+    goal ≡ lay next (f rest) (set l place x)
+turn_laid f goal l s rest here place next x g e p n =
+    lay_step goal l _ _ here next x n e g ∙ ap (λ (k : ℕ). lay next (f rest) (set l k x)) (sym p)
+
 -- what f makes of the first four bytes is laid
 pub walk_turn :
     {A : Type 0} (f : List ℕ → List A) (goal l : List A) (s : List ℕ) (at next : ℕ) (x : A) →
@@ -149,17 +165,6 @@ pub walk_turn :
     goal ≡ lay next (f (take (length s - 4) (drop 4 s))) (set l at x)
 walk_turn f goal l s at next x g n e =
     lay_step goal l _ _ at next x n (e ∙ ap (λ (r : List ℕ). x ∷ f r) (sym (part_end 4 s))) g
-
--- the first four bytes are the turn of a free lock; or there are no four
-pub lock_next :
-    (s : List ℕ) (t : ℕ) →
-    t ≡ u32_of (get_or s 0 0) (get_or s 1 0) (get_or s 2 0) (get_or s 3 0) →
-    4 ≤ length s →
-    map free_at (u32s_of s) ≡ free_at t ∷ map free_at (u32s_of (drop 4 s))
-lock_next s t e h = simp (u32s_turn s h, e)
-
-pub lock_none : (s : List ℕ) → length s < 4 → map free_at (u32s_of s) ≡ []
-lock_none s h = ap (map free_at) (u32s_short s h)
 
 -- the words from the j-th on: its guard, and the value of its four bytes, and those after it; none
 pub words_next :
@@ -207,7 +212,7 @@ words_end goal l guards values j g h = lay_done goal l _ j (words_none guards va
 pub held_turn :
     (goal : Told) (locks : List LockWord) (n j : ℕ) (d : LockWord) →
     goal ≡ held_told (drop j (take n locks)) j →
-    (get_or locks j d).holder ≡ Free →
+    (get_or locks j d).holder ≡ None →
     j < n →
     n ≤ length locks →
     goal ≡ held_told (drop (j + 1) (take n locks)) (j + 1)
@@ -218,10 +223,10 @@ held_turn goal locks n j d g e h k =
 pub held_stop :
     (goal : Told) (locks : List LockWord) (n j s : ℕ) (d : LockWord) →
     goal ≡ held_told (drop j (take n locks)) j →
-    (get_or locks j d).holder ≡ By s →
+    (get_or locks j d).holder ≡ Some s →
     j < n →
     n ≤ length locks →
-    Refused (Held j) ≡ goal
+    Err (Held j) ≡ goal
 unfolding held_told
 held_stop goal locks n j s d g e h k =
     sym (g ∙ ap (λ (r : List LockWord). held_told r j) (first_turn locks n j d h k) ∙ simp e)
@@ -231,6 +236,6 @@ pub held_end :
     goal ≡ held_told (drop j (take n locks)) j →
     n ≤ j →
     n ≤ length locks →
-    Accepted ≡ goal
+    (Ok tt) ≡ goal
 unfolding held_told
 held_end goal locks n j g h k = sym (g ∙ ap (λ (r : List LockWord). held_told r j) (first_end locks n j h k))

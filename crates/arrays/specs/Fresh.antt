@@ -1,6 +1,5 @@
 -- What setup reads into words and locks, and what is read of them: guards, values, turns.
-use Rattle.std.specs.Prelude.{ℕ, List, [], ◌∷◌, map}
-use Rattle.parts.specs.declared.Holder.TheVariants.{Free}
+use Rattle.std.specs.Prelude.{ℕ, List, [], ◌∷◌, map, None}
 use Rattle.parts.specs.declared.LockWord.{LockWord}
 use Rattle.parts.specs.declared.Word.{Word}
 
@@ -12,7 +11,7 @@ words_from (g ∷ gs) (v ∷ vs) = record { value = v; count = 0; guard = g } �
 
 -- "A lock word has a turn, and is either free or held by a named sheet."
 abbrev pub free_at : ℕ → LockWord
-free_at turn = record { turn = turn; holder = Free }
+free_at turn = record { turn = turn; holder = None }
 
 abbrev pub guards_of : List Word → List ℕ
 guards_of = map (λ w. w.guard)

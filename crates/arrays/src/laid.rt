@@ -5,9 +5,9 @@ ghost use Rattle.parts.specs.Numbers.{instructions, entries, most_words, most_lo
 ghost use Rattle.parts.specs.Parts.{word0, lock0, instr0, entry0};
 ghost use Rattle.records.specs.Bytes.{u32s_of};
 ghost use Rattle.records.specs.Job.{instrs_of};
-ghost use Rattle.arrays.specs.Fresh.{words_from, free_at, guards_of};
+ghost use Rattle.arrays.specs.Fresh.{words_from, free_at};
 
-use parts::{ENTRIES, Entry, Fill, Holder, INSTRUCTIONS, Instr, LOCKS, LockWord, WORDS, Word};
+use parts::{ENTRIES, Entry, INSTRUCTIONS, Instr, LOCKS, LockWord, WORDS, Word};
 
 // The words of these guards and these values' bytes.
 pub fn words_from(guards: &[u8], values: &[u8]) -> [Word; WORDS]
@@ -19,14 +19,12 @@ pub fn words_from(guards: &[u8], values: &[u8]) -> [Word; WORDS]
         count: 0,
         guard: 0,
     }; WORDS];
-    let mut j: usize = 0;
-    while j < guards.len() {
+    for (j, guard) in guards.iter().enumerate() {
         out[j] = Word {
             value: records::u32_at(values, 4 * j),
             count: 0,
-            guard: guards[j],
+            guard: *guard,
         };
-        j += 1;
     }
     out
 }
@@ -38,82 +36,44 @@ pub fn locks_from(turns: &[u8]) -> [LockWord; LOCKS]
 {
     let mut out = [LockWord {
         turn: 0,
-        holder: Holder::Free,
+        holder: None,
     }; LOCKS];
-    let mut rest = turns;
-    let mut j: usize = 0;
-    while 4 <= rest.len() {
+    for (j, turn) in turns.chunks_exact(4).enumerate() {
         out[j] = LockWord {
-            turn: records::u32_at(rest, 0),
-            holder: Holder::Free,
+            turn: records::u32_at(turn, 0),
+            holder: None,
         };
-        rest = &rest[4..];
-        j += 1;
     }
     out
 }
 
 // A sheet's log is empty.
-pub fn log_emptied(mut log: [Entry; ENTRIES], base: usize) -> [Entry; ENTRIES]
+pub fn log_emptied(log: &mut [Entry; ENTRIES], base: usize)
     requires { base + instructions ≤ entries }
-    ensures { result ≡ lay base (replicate instructions entry0) log }
+    ensures { log.new ≡ lay base (replicate instructions entry0) log.old }
 {
-    let mut e: usize = 0;
-    while e < INSTRUCTIONS {
-        log[base + e] = Entry { fill: Fill::Empty };
-        e += 1;
-    }
-    log
+    log[base..base + INSTRUCTIONS].fill(Entry { fill: None });
 }
 
 // A sheet's program is all zeros.
-pub fn program_emptied(mut program: [Instr; ENTRIES], base: usize) -> [Instr; ENTRIES]
+pub fn program_emptied(program: &mut [Instr; ENTRIES], base: usize)
     requires { base + instructions ≤ entries }
-    ensures { result ≡ lay base (replicate instructions instr0) program }
+    ensures { program.new ≡ lay base (replicate instructions instr0) program.old }
 {
-    let mut j: usize = 0;
-    while j < INSTRUCTIONS {
-        program[base + j] = Instr {
-            op: 0,
-            a: 0,
-            b: 0,
-            c: 0,
-        };
-        j += 1;
-    }
-    program
+    program[base..base + INSTRUCTIONS].fill(Instr {
+        op: 0,
+        a: 0,
+        b: 0,
+        c: 0,
+    });
 }
 
 // A sheet has the job of these bytes.
-pub fn program_laid(mut program: [Instr; ENTRIES], base: usize, code: &[u8]) -> [Instr; ENTRIES]
+pub fn program_laid(program: &mut [Instr; ENTRIES], base: usize, code: &[u8])
     requires { (base + instructions ≤ entries) × (length code.now ≤ 4 * instructions) }
-    ensures { result ≡ lay base (instrs_of code.now) program }
+    ensures { program.new ≡ lay base (instrs_of code.now) program.old }
 {
-    let mut rest = code;
-    let mut j: usize = 0;
-    while 4 <= rest.len() {
-        program[base + j] = Instr {
-            op: rest[0],
-            a: rest[1],
-            b: rest[2],
-            c: rest[3],
-        };
-        rest = &rest[4..];
-        j += 1;
+    for (j, four) in code.chunks_exact(4).enumerate() {
+        program[base + j] = records::job::first_instr(four);
     }
-    program
-}
-
-// The guard of each word.
-pub fn guards_of(words: [Word; WORDS]) -> [u8; WORDS]
-    ensures { result ≡ guards_of words }
-{
-    let mut out = [0u8; WORDS];
-    let mut j: usize = 0;
-    while j < WORDS {
-        let w = words[j];
-        out[j] = w.guard;
-        j += 1;
-    }
-    out
 }

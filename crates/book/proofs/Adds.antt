@@ -1,78 +1,39 @@
 -- What the writer tells and writes, by what the callees told and wrote.
-use Prim.Native.Nat.{ℕ, ◌+◌, ◌-◌, ◌/◌, ◌%◌, ◌≤◌, ◌<◌}
+use Prim.Native.Nat.{ℕ, ◌+◌, ◌-◌, ◌/◌, ◌%◌, ◌≤◌}
 use mathlib.Core.List.{List, [], ◌∷◌, ◌++◌}
-use mathlib.Core.Path.{◌≡◌, ◌∙◌, sym, ap, subst}
+use mathlib.Core.Path.{◌≡◌, ◌∙◌, sym, ap}
 use native.Mathlib.Omega.{arith}
 use lib.Dec.{ltb}
 use lib.ListN.{length, take, drop}
 use lib.Seq.{length-take-le}
-use borrow.Author.Tests.{lt-ltb, le-ltb, ltb-false}
+use borrow.Author.Tests.{ltb-false}
 use Rattle.parts.specs.Lay.{lay}
-use Rattle.parts.specs.Told.{refuse_if, first_of}
-use Rattle.parts.specs.declared.Refusal.{Refusal}
-use Rattle.parts.specs.declared.Refusal.TheVariants.{NotThere, Present, Buffer}
-use Rattle.parts.specs.declared.Told.{Told}
-use Rattle.parts.specs.declared.Told.TheVariants.{Accepted, Refused}
+use Rattle.parts.specs.Told.{refuse_if}
+use Rattle.parts.specs.declared.Refusal.TheVariants.{NotThere, Buffer}
+use Rattle.parts.specs.Told.{Told}
 use Rattle.parts.proofs.Lay.{length-lay, lay-append}
 use Rattle.parts.proofs.Order.{first_all, row_passes}
 use Rattle.records.proofs.Laws.{part_end}
-use Rattle.book.specs.Formed.{formed_told}
-use Rattle.book.specs.Book.{head_bytes, entry_kind, book_told, place_of}
-use Rattle.book.specs.Add.{last_number, entry_bytes, with_entry, place_order, job_order, add_told, added_bytes, add_of, add_left}
-use Rattle.book.specs.Inner.{job_bytes, Adds}
-use Rattle.book.specs.declared.Added.{Added}
+use Rattle.book.specs.Book.{head_bytes, entry_kind, book_told, place_of, place_at}
+use Rattle.book.specs.Add.{last_number, entry_bytes, with_entry, job_order, add_told, added_bytes}
+use Rattle.book.specs.Inner.{Adds}
+use Rattle.std.specs.Prelude.{Result, Ok}
+use Rattle.book.proofs.Finds.{place_starts}
 use Rattle.book.specs.declared.Place.{Place}
 use Rattle.book.proofs.Turns.{part_length}
 
--- 20 and 13
-module _ (book : List ℕ) (number entry room : ℕ) (p : Place) (e : p ≡ place_of book number) where
-  pub present_by : 0 < p.size → Refused Present ≡ first_of (place_order book number entry room)
-  present_by h = let z = subst (λ (p : Place). 0 < p.size) e h in simp (lt-ltb 0 (place_of book number).size z)
-
-  pub room_by :
-      (t : Told) → p.size ≤ 0 → t ≡ refuse_if (ltb room (length book + entry)) Buffer →
-      t ≡ first_of (place_order book number entry room)
-  room_by t h q = let z = subst (λ (p : Place). p.size ≤ 0) e h in q ∙ simp (le-ltb 0 (place_of book number).size z)
-
--- 5, 6 and 7 of the job, then those
-module _ (book : List ℕ) (number : ℕ) (rec : List ℕ) (room : ℕ) (t : Told) (e : t ≡ formed_told rec) where
-  pub job_stop : (r : Refusal) → t ≡ Refused r → t ≡ first_of (job_order book number rec room)
-  job_stop r h = let z = sym e ∙ h in h ∙ simp z
-
-  pub job_pass :
-      (u : Told) → t ≡ Accepted → u ≡ first_of (place_order book number (head_bytes + length rec) room) →
-      u ≡ first_of (job_order book number rec room)
-  job_pass u h q = let z = sym e ∙ h in q ∙ simp z
-
--- 18, 19, then those
-module _ (book : List ℕ) (number : ℕ) (rec : List ℕ) (room : ℕ) (t : Told) (e : t ≡ book_told book) where
-  pub book_stop : (r : Refusal) → t ≡ Refused r → t ≡ add_told book number rec room
-  unfolding add_told
-  book_stop r h = let z = sym e ∙ h in h ∙ simp z
-
-  module _ (h : t ≡ Accepted) where
-    pub number_stop : last_number < number → Refused NotThere ≡ add_told book number rec room
-    unfolding add_told
-    number_stop k = let z = sym e ∙ h in simp (z, lt-ltb last_number number k)
-
-    pub number_pass :
-        (u : Told) → number ≤ last_number → u ≡ first_of (job_order book number rec room) → u ≡ add_told book number rec room
-    unfolding add_told
-    number_pass u k q = let z = sym e ∙ h in q ∙ simp (z, le-ltb last_number number k)
-
 -- an entry, laid as its head and its job record
 pub entry_laid :
-    (at number : ℕ) (rec buf mid out : List ℕ) → length rec ≤ job_bytes →
+    (at number : ℕ) (rec buf mid out : List ℕ) → number ≤ last_number →
     mid ≡
     lay at
-    ((head_bytes + length rec) % 256 ∷ (head_bytes + length rec) / 256 ∷ entry_kind ∷ 0 ∷ number % 256 ∷ number / 256 ∷ []) buf →
+    ((head_bytes + length rec) % 256 ∷ (head_bytes + length rec) / 256 % 256 ∷ entry_kind ∷ 0 ∷ number % 256 ∷ number / 256 % 256 ∷ []) buf →
     out ≡ lay (at + head_bytes) rec mid → out ≡ lay at (entry_bytes number rec) buf
 entry_laid at number rec buf mid out h m o =
     let size = head_bytes + length rec in
-    let head = size % 256 ∷ size / 256 ∷ entry_kind ∷ 0 ∷ number % 256 ∷ number / 256 ∷ [] in
-    let z : size / 256 ≡ size / 256 % 256 = omega arith in
-    o ∙ ap (lay (at + head_bytes) rec) m ∙ sym (lay-append at head rec buf) ∙
-    ap (λ (b : ℕ). lay at (size % 256 ∷ b ∷ entry_kind ∷ 0 ∷ number % 256 ∷ number / 256 ∷ rec) buf) z
+    let head = size % 256 ∷ size / 256 % 256 ∷ entry_kind ∷ 0 ∷ number % 256 ∷ number / 256 ∷ [] in
+    let z : number / 256 % 256 ≡ number / 256 = omega arith in
+    o ∙ ap (lay (at + head_bytes) rec) (rw z at m) ∙ sym (lay-append at head rec buf)
 
 -- the three parts of a book with an entry more, one after the other
 pub book_laid :
@@ -93,10 +54,17 @@ book_laid book at number rec buf first second out h f s o =
 
 -- in the number's place
 pub placed_by :
-    (book : List ℕ) (number : ℕ) (rec buf out : List ℕ) (p : Place) → p ≡ place_of book number →
-    out ≡ lay 0 (with_entry book p.at number rec) buf → out ≡ lay 0 (added_bytes book number rec) buf
+    (book : List ℕ) (number at : ℕ) (rec buf out : List ℕ) (p : Result Place ℕ) → p ≡ place_of book number → at ≡ place_at p →
+    out ≡ lay 0 (with_entry book at number rec) buf → out ≡ lay 0 (added_bytes book number rec) buf
 unfolding added_bytes
-placed_by book number rec buf out p e o = o ∙ ap (λ (q : Place). lay 0 (with_entry book q.at number rec) buf) e
+placed_by book number at rec buf out p e a o =
+    o ∙ ap (λ (n : ℕ). lay 0 (with_entry book n number rec) buf) (a ∙ ap place_at e)
+
+-- which lies in the book
+pub placed_in :
+    (book : List ℕ) (number at : ℕ) (p : Result Place ℕ) → book_told book ≡ Ok tt → p ≡ place_of book number → at ≡ place_at p →
+    at ≤ length book
+placed_in book number at p g e a = omega (arith, place_starts book number p g e)
 
 -- the part before `at`
 pub front_length : (at : ℕ) (book : List ℕ) → at ≤ length book → at ≡ length (take at book)
@@ -119,7 +87,7 @@ module _
 
 -- where nothing is refused, every row accepts
 pub adds_by :
-    (book : List ℕ) (number : ℕ) (rec : List ℕ) (room : ℕ) (t : Told) → t ≡ add_told book number rec room → t ≡ Accepted →
+    (book : List ℕ) (number : ℕ) (rec : List ℕ) (room : ℕ) (t : Told) → t ≡ add_told book number rec room → t ≡ Ok tt →
     Adds book number rec room
 unfolding add_told
 adds_by book number rec room t e h =
@@ -131,18 +99,3 @@ adds_by book number rec room t e h =
       formed = row 2;
       fits = ltb-false room (length book + (head_bytes + length rec)) (row_passes _ Buffer (row 4));
     }
-
--- what is told and left, refused and accepted
-module _ (book : List ℕ) (number : ℕ) (rec buf : List ℕ) (t : Told) (e : t ≡ add_told book number rec (length buf)) where
-  pub add_refused :
-      (r : Refusal) (x : Added) → t ≡ Refused r → x ≡ record { told = t; length = 0 } →
-      (x ≡ add_of book number rec (length buf)) × (buf ≡ add_left book number rec buf)
-  unfolding add_of add_left
-  add_refused r x h q = let z = sym e ∙ h in (q ∙ simp (h, z), simp z)
-
-  pub add_accepted :
-      (x : Added) (out : List ℕ) → t ≡ Accepted → x ≡ record { told = Accepted; length = length book + (head_bytes + length rec) } →
-      out ≡ lay 0 (added_bytes book number rec) buf →
-      (x ≡ add_of book number rec (length buf)) × (out ≡ add_left book number rec buf)
-  unfolding add_of add_left
-  add_accepted x out h q o = let z = sym e ∙ h in (q ∙ simp z, o ∙ simp z)

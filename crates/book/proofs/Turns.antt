@@ -11,12 +11,12 @@ use lib.ListN.{length, take, drop, length-drop}
 use borrow.Author.Tests.{eq-eqb, ne_eqb, lt-ltb, le-ltb}
 use Rattle.parts.specs.Pick.{pick}
 use Rattle.parts.specs.declared.Refusal.TheVariants.{Malformed}
-use Rattle.parts.specs.declared.Told.{Told}
-use Rattle.parts.specs.declared.Told.TheVariants.{Accepted, Refused}
+use Rattle.parts.specs.Told.{Told}
 use Rattle.parts.proofs.Order.{neither}
 use Rattle.records.specs.Bytes.{length_field}
 use Rattle.records.proofs.Laws.{part_end}
 use Rattle.book.specs.Book.{number_field, bad_head, bad_entry, book_from, place_from}
+use Rattle.std.specs.Prelude.{Result, Ok, Err}
 use Rattle.book.specs.declared.Place.{Place}
 use Rattle.book.proofs.Laws.{Head, head_good}
 
@@ -55,28 +55,28 @@ book_front at low (b ∷ s) h k = go (length_field (b ∷ s)) (entry_good low (b
   where
     go :
         (size : ℕ) → 6 ≤ size →
-        pick (bad_entry low (b ∷ s)) (Refused (Malformed at)) (book_from (size - 1) (at + 1) (number_field (b ∷ s) + 1) s) ≡
+        pick (bad_entry low (b ∷ s)) (Err (Malformed at)) (book_from (size - 1) (at + 1) (number_field (b ∷ s) + 1) s) ≡
         book_from size at (number_field (b ∷ s) + 1) (b ∷ s)
     go zero l = absurd (omega arith)
     go (suc n) l = let z : suc n - 1 ≡ n = omega arith in simp (k, z)
 
-book_bad : (at low : ℕ) (s : List ℕ) → 0 < length s → bad_entry low s ≡ true → book_from 0 at low s ≡ Refused (Malformed at)
+book_bad : (at low : ℕ) (s : List ℕ) → 0 < length s → bad_entry low s ≡ true → book_from 0 at low s ≡ Err (Malformed at)
 unfolding book_from
 book_bad at low [] h k = absurd (omega arith)
 book_bad at low (b ∷ s) h k = simp k
 
-book_end : (at low : ℕ) (s : List ℕ) → length s ≤ 0 → book_from 0 at low s ≡ Accepted
+book_end : (at low : ℕ) (s : List ℕ) → length s ≤ 0 → book_from 0 at low s ≡ Ok tt
 unfolding book_from
 book_end at low [] h = refl
 book_end at low (b ∷ s) h = absurd (omega arith)
 
 -- a walk that has come to s, whose first byte is the book's byte `at`; b, size and n were read at its front
 module _ (goal : Told) (at low : ℕ) (s : List ℕ) (g : goal ≡ book_from 0 at low s) where
-  pub walk_end : length s ≤ 0 → Accepted ≡ goal
+  pub walk_end : length s ≤ 0 → Ok tt ≡ goal
   walk_end h = sym (g ∙ book_end at low s h)
 
   module _ (b : Bool) (h : 0 < length s) (e : b ≡ bad_entry low s) where
-    pub walk_bad : b ≡ true → Refused (Malformed at) ≡ goal
+    pub walk_bad : b ≡ true → Err (Malformed at) ≡ goal
     walk_bad q = sym (g ∙ book_bad at low s h (sym e ∙ q))
 
     pub walk_turn :
@@ -105,10 +105,10 @@ module _ (b : Bool) (low : ℕ) (s : List ℕ) (e : b ≡ bad_entry low s) (h : 
 -- what is left of a good book from its byte `at` on
 pub record Left (at : ℕ) (s : List ℕ) : Type 0 where
   pub low : ℕ
-  pub good : book_from 0 at low s ≡ Accepted
+  pub good : book_from 0 at low s ≡ Ok tt
 
 -- its first entry
-pub left_entry : (at low : ℕ) (s : List ℕ) → 0 < length s → book_from 0 at low s ≡ Accepted → bad_entry low s ≡ false
+pub left_entry : (at low : ℕ) (s : List ℕ) → 0 < length s → book_from 0 at low s ≡ Ok tt → bad_entry low s ≡ false
 left_entry at low s h g = go (bad_entry low s) refl
   where
     go : (b : Bool) → bad_entry low s ≡ b → bad_entry low s ≡ false
@@ -125,7 +125,7 @@ module _ (at : ℕ) (s : List ℕ) (l : Left at s) (h : 0 < length s) where
       record {
         low = number_field s + 1;
         good =
-            sym (walk_turn Accepted at l.low s (sym l.good) false h (sym (left_entry at l.low s h l.good)) size (number_field s) refl q refl);
+            sym (walk_turn (Ok tt) at l.low s (sym l.good) false h (sym (left_entry at l.low s h l.good)) size (number_field s) refl q refl);
       }
 
 -- the front of a good book that has a byte
@@ -133,7 +133,7 @@ place_front :
     (number at : ℕ) (s : List ℕ) → 0 < length s → 1 ≤ length_field s →
     place_from number 0 at s ≡
     pick (ltb (number_field s) number) (place_from number (length_field s) at s)
-    (record { at = at; size = pick (eqb (number_field s) number) (length_field s) 0 })
+    (pick (eqb (number_field s) number) (Ok (record { at = at; size = length_field s })) (Err at))
 unfolding place_from
 place_front number at [] h k = absurd (omega arith)
 place_front number at (b ∷ s) h k = go (length_field (b ∷ s)) k
@@ -141,32 +141,32 @@ place_front number at (b ∷ s) h k = go (length_field (b ∷ s)) k
     go :
         (size : ℕ) → 1 ≤ size →
         pick (ltb (number_field (b ∷ s)) number) (place_from number (size - 1) (at + 1) s)
-        (record { at = at; size = pick (eqb (number_field (b ∷ s)) number) (length_field (b ∷ s)) 0 }) ≡
+        (pick (eqb (number_field (b ∷ s)) number) (Ok (record { at = at; size = length_field (b ∷ s) })) (Err at)) ≡
         pick (ltb (number_field (b ∷ s)) number) (place_from number size at (b ∷ s))
-        (record { at = at; size = pick (eqb (number_field (b ∷ s)) number) (length_field (b ∷ s)) 0 })
+        (pick (eqb (number_field (b ∷ s)) number) (Ok (record { at = at; size = length_field (b ∷ s) })) (Err at))
     go zero l = absurd (omega arith)
     go (suc n) l = let z : suc n - 1 ≡ n = omega arith in simp z
 
 -- a search that has come to s, whose first byte is the book's byte `at`; n and size were read at its front
-module _ (goal : Place) (number at : ℕ) (s : List ℕ) (g : goal ≡ place_from number 0 at s) where
-  pub place_end : length s ≤ 0 → record { at = at; size = 0 } ≡ goal
+module _ (goal : Result Place ℕ) (number at : ℕ) (s : List ℕ) (g : goal ≡ place_from number 0 at s) where
+  pub place_end : length s ≤ 0 → Err at ≡ goal
   unfolding place_from
   place_end h = sym (g ∙ go s h)
     where
-      go : (s : List ℕ) → length s ≤ 0 → place_from number 0 at s ≡ record { at = at; size = 0 }
+      go : (s : List ℕ) → length s ≤ 0 → place_from number 0 at s ≡ Err at
       go [] h = refl
       go (b ∷ s) h = absurd (omega arith)
 
   module _ (l : Left at s) (h : 0 < length s) (n size : ℕ) (m : n ≡ number_field s) (z : size ≡ length_field s) where
-    front : goal ≡ pick (ltb n number) (place_from number size at s) (record { at = at; size = pick (eqb n number) size 0 })
+    front : goal ≡ pick (ltb n number) (place_from number size at s) (pick (eqb n number) (Ok (record { at = at; size = size })) (Err at))
     front =
         let k = (left_head at s l h).size in
         g ∙ place_front number at s h (omega arith) ∙ simp (← m, ← z)
 
-    pub place_above : number < n → record { at = at; size = 0 } ≡ goal
+    pub place_above : number < n → Err at ≡ goal
     place_above q = let y : n ≡ number → ⊥ = λ w. omega arith in sym (front ∙ simp (le-ltb n number (omega arith), ne_eqb n number y))
 
-    pub place_here : n ≡ number → record { at = at; size = size } ≡ goal
+    pub place_here : n ≡ number → Ok (record { at = at; size = size }) ≡ goal
     place_here q = sym (front ∙ simp (le-ltb n number (omega arith), eq-eqb n number q))
 
     pub place_turn :

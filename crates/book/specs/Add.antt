@@ -5,7 +5,7 @@ use Rattle.parts.specs.Lay.{lay}
 use Rattle.parts.specs.Told.{on_told, refuse_if, first_of}
 use Rattle.records.specs.Bytes.{header}
 use Rattle.book.specs.Formed.{formed_told}
-use Rattle.book.specs.Book.{entry_kind, head_bytes, book_told, place_of, is_there}
+use Rattle.book.specs.Book.{entry_kind, head_bytes, book_told, place_of, place_at, is_there}
 
 -- "Job numbers run from 0 to 65,535"
 abbrev pub last_number : ℕ
@@ -32,13 +32,12 @@ abbrev pub with_entry : List ℕ → ℕ → ℕ → List ℕ → List ℕ
 with_entry book at number rec = take at book ++ (entry_bytes number rec ++ drop at book)
 
 unfoldable pub added_bytes : List ℕ → ℕ → List ℕ → List ℕ
-added_bytes book number rec = with_entry book (place_of book number).at number rec
+added_bytes book number rec = with_entry book (place_at (place_of book number)) number rec
 
--- what is told, with the length of the book that was written; and what is left in the buffer
-unfoldable pub add_of : List ℕ → ℕ → List ℕ → ℕ → Added
+-- the length of the book that was written, or why none was; and what is left in the buffer
+unfoldable pub add_of : List ℕ → ℕ → List ℕ → ℕ → Result ℕ Refusal
 add_of book number rec room =
-    on_told (add_told book number rec room) (record { told = Accepted; length = length book + (head_bytes + length rec) })
-    (λ r. record { told = Refused r; length = 0 })
+    on_told (add_told book number rec room) (Ok (length book + (head_bytes + length rec))) (λ r. Err r)
 
 unfoldable pub add_left : List ℕ → ℕ → List ℕ → List ℕ → List ℕ
 add_left book number rec buf =

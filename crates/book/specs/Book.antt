@@ -38,53 +38,93 @@ bad_entry low s = bad_head low s or refuses (formed_told (job_part s))
 -- "makes the book malformed: 18, at the offset of the first byte of the first bad entry in its book": of a book from its byte `at` on, once
 -- n more bytes are passed over
 unfoldable pub book_from : ℕ → ℕ → ℕ → List ℕ → Told
-book_from n at low [] = Accepted
+book_from n at low [] = Ok tt
 book_from (suc n) at low (b ∷ s) = book_from n (at + 1) low s
 book_from zero at low (b ∷ s) =
-    pick (bad_entry low (b ∷ s)) (Refused (Malformed at))
+    pick (bad_entry low (b ∷ s)) (Err (Malformed at))
     (book_from (length_field (b ∷ s) - 1) (at + 1) (number_field (b ∷ s) + 1) s)
 
 abbrev pub book_told : List ℕ → Told
 book_told book = book_from 0 0 0 book
 
--- the place of a number in a good book: where the first entry begins whose number is not below it, or the book's end where there is none, and
--- how long that entry is where it has the number, else 0
-unfoldable pub place_from : ℕ → ℕ → ℕ → List ℕ → Place
-place_from number n at [] = record { at = at; size = 0 }
+-- the place of a number in a good book: where the entry begins that has it, and how long it is; or where it would begin, which is before the
+-- first entry whose number is above it, or at the book's end where there is none
+unfoldable pub place_from : ℕ → ℕ → ℕ → List ℕ → Result Place ℕ
+place_from number n at [] = Err at
 place_from number (suc n) at (b ∷ s) = place_from number n (at + 1) s
 place_from number zero at (b ∷ s) =
     pick (ltb (number_field (b ∷ s)) number) (place_from number (length_field (b ∷ s) - 1) (at + 1) s)
-    (record { at = at; size = pick (eqb (number_field (b ∷ s)) number) (length_field (b ∷ s)) 0 })
+    (pick (eqb (number_field (b ∷ s)) number) (Ok (record { at = at; size = length_field (b ∷ s) })) (Err at))
 
-abbrev pub place_of : List ℕ → ℕ → Place
+abbrev pub place_of : List ℕ → ℕ → Result Place ℕ
 place_of book number = place_from number 0 0 book
 
-abbrev pub is_there : Place → Bool
-is_there p = ltb 0 p.size
+-- where that is, and how long the entry there is, 0 where there is none
+abbrev pub place_at : Result Place ℕ → ℕ
+place_at (Ok p) = p.at
+place_at (Err at) = at
 
--- what a search tells: accepted, or why not; in which book (1 line, 2 factory, 0 none), under 18 which one is malformed; where the job
--- record begins there and how long it is
-abbrev pub found_in : ℕ → Place → Found
-found_in book p = record { told = Accepted; book = book; from = p.at + head_bytes; length = p.size - head_bytes }
+abbrev pub place_size : Result Place ℕ → ℕ
+place_size (Ok p) = p.size
+place_size (Err at) = 0
 
-abbrev pub nowhere : ℕ → Refusal → Found
-nowhere book r = record { told = Refused r; book = book; from = 0; length = 0 }
+abbrev pub is_there : Result Place ℕ → Bool
+is_there p = ltb 0 (place_size p)
+
+-- the number that C knows a book by, and 0 where it is none
+abbrev pub book_number : Book → ℕ
+book_number Line = 1
+book_number Factory = 2
+
+abbrev pub some_number : Option Book → ℕ
+some_number (Some book) = book_number book
+some_number None = 0
+
+-- what a search tells: in which book, where the job record begins there and how long it is; or why not, and under 18 which one is malformed
+abbrev pub Search : Type 0
+Search = Result Found NotFound
+
+abbrev pub found_in : Book → ℕ → ℕ → Search
+found_in book at size = Ok (record { book = book; from = at + head_bytes; length = size - head_bytes })
+
+abbrev pub nowhere : Option Book → Refusal → Search
+nowhere book r = Err (record { book = book; refusal = r })
+
+-- the same, number by number: 0 and 0 of a search that is refused
+abbrev pub told_of : Search → Told
+told_of (Ok f) = Ok tt
+told_of (Err n) = Err n.refusal
+
+abbrev pub which_of : Search → ℕ
+which_of (Ok f) = book_number f.book
+which_of (Err n) = some_number n.book
+
+abbrev pub from_of : Search → ℕ
+from_of (Ok f) = f.from
+from_of (Err n) = 0
+
+abbrev pub length_of : Search → ℕ
+length_of (Ok f) = f.length
+length_of (Err n) = 0
 
 -- "the line book first"; 19: "number not there"
-abbrev pub in_books : List ℕ → List ℕ → ℕ → Found
+abbrev pub found_at : Book → Result Place ℕ → Search
+found_at book p = found_in book (place_at p) (place_size p)
+
+abbrev pub in_books : List ℕ → List ℕ → ℕ → Search
 in_books line factory number =
-    pick (is_there (place_of line number)) (found_in 1 (place_of line number))
-    (pick (is_there (place_of factory number)) (found_in 2 (place_of factory number)) (nowhere 0 NotThere))
+    pick (is_there (place_of line number)) (found_at Line (place_of line number))
+    (pick (is_there (place_of factory number)) (found_at Factory (place_of factory number)) (nowhere None NotThere))
 
 -- "A book is checked whole .. before any lookup." 18: "book malformed, line book before factory book, with the offset of the first bad entry"
-unfoldable pub find_of : List ℕ → List ℕ → ℕ → Found
+unfoldable pub find_of : List ℕ → List ℕ → ℕ → Search
 find_of line factory number =
-    on_told (book_told line) (on_told (book_told factory) (in_books line factory number) (nowhere 2)) (nowhere 1)
+    on_told (book_told line) (on_told (book_told factory) (in_books line factory number) (nowhere (Some Factory))) (nowhere (Some Line))
 
 -- "Looking up a number hands back the job record as it stands inside whichever book has it"; "A refused lookup hands back an empty part":
 -- its bytes, and where they stand: of the books' addresses a and b, so many bytes further
-abbrev pub part_of : Found → List ℕ → List ℕ → List ℕ
-part_of f line factory = take f.length (drop f.from (pick (eqb f.book 2) factory line))
+abbrev pub part_of : Search → List ℕ → List ℕ → List ℕ
+part_of f line factory = take (length_of f) (drop (from_of f) (pick (eqb (which_of f) 2) factory line))
 
 unfoldable pub lookup_of : List ℕ → List ℕ → ℕ → List ℕ
 lookup_of line factory number = part_of (find_of line factory number) line factory
@@ -94,4 +134,4 @@ further a n = (a.0, n + a.1)
 
 unfoldable pub lookup_at : List ℕ → List ℕ → ℕ → ℕ × ℕ → ℕ × ℕ → ℕ × ℕ
 lookup_at line factory number a b =
-    further (pick (eqb (find_of line factory number).book 2) b a) (find_of line factory number).from
+    further (pick (eqb (which_of (find_of line factory number)) 2) b a) (from_of (find_of line factory number))

@@ -1,56 +1,33 @@
 // A job record of a book, which is held against no lock: 5, 6 and 7.
 ghost use Rattle.std.specs.Prelude.{◌≡◌, ◌≤◌, length};
 ghost use Rattle.records.specs.Job.{instrs_of, job_of};
-ghost use Rattle.book.specs.Formed.{first_formed, code_formed, formed_told};
+ghost use Rattle.book.specs.Formed.{instr_formed, code_formed, formed_told};
 
-use parts::{Refusal, Told};
+use parts::{Instr, Refusal};
+use records::job::{faulty, form_told, lowest};
 
-// The instruction of the first four bytes, at `place`, with the rest of the code after it.
-fn first_formed(s: &[u8], place: usize) -> Told
-    requires { 4 ≤ length s.now }
-    ensures { result ≡ first_formed s.now place }
+// One instruction, which `left` others follow.
+fn instr_formed(i: Instr, place: usize, left: usize) -> Result<(), Refusal>
+    ensures { result ≡ instr_formed i place left }
 {
-    let i = records::job::first_instr(s);
-    if records::job::faulty(i, (s.len() - 4) / 4) {
-        return Told::Refused(Refusal::Instruction(place));
+    if faulty(i, left) {
+        return Err(Refusal::Instruction(place));
     }
-    Told::Accepted
+    Ok(())
 }
 
-// The lowest faulty instruction: `rest` is the code from the instruction at `place` on.
-fn code_formed(code: &[u8]) -> Told
+// The lowest faulty instruction.
+fn code_formed(code: &[u8]) -> Result<(), Refusal>
     ensures { result ≡ code_formed (instrs_of code.now) 0 }
 {
-    let mut rest = code;
-    let mut place: usize = 0;
-    while 4 <= rest.len() {
-        let told = first_formed(rest, place);
-        match told {
-            Told::Accepted => {
-                rest = &rest[4..];
-                place += 1;
-            }
-            Told::Refused(_) => return told,
-        }
-    }
-    Told::Accepted
-}
-
-// The instructions of a job record.
-fn body_formed(rec: &[u8]) -> Told
-    requires { 4 ≤ length rec.now }
-    ensures { result ≡ code_formed (job_of rec.now) 0 }
-{
-    code_formed(&rec[4..])
+    lowest(code, instr_formed)
 }
 
 // A job record, whatever words it names.
-pub fn formed_told(rec: &[u8]) -> Told
+#[tactic(auto, unfolding(crate::specs::Formed::formed_told), using(records::proofs::Form::form_four))]
+pub fn formed_told(rec: &[u8]) -> Result<(), Refusal>
     ensures { result ≡ formed_told rec.now }
 {
-    let told = records::job::form_told(rec);
-    match told {
-        Told::Refused(_) => told,
-        Told::Accepted => body_formed(rec),
-    }
+    form_told(rec)?;
+    code_formed(&rec[4..])
 }

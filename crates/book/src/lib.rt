@@ -3,8 +3,7 @@
 #![tactic(auto)]
 
 ghost use Rattle.std.specs.Prelude.{◌≡◌, ◌≤◌, ◌<◌, ◌+◌, ◌^◌, length};
-ghost use Rattle.parts.specs.declared.Told.TheVariants.{Accepted};
-ghost use Rattle.book.specs.Book.{book_told, found_in, nowhere, in_books, find_of, lookup_of, lookup_at};
+ghost use Rattle.book.specs.Book.{book_number, found_in, in_books, find_of, lookup_of, lookup_at};
 ghost use Rattle.book.specs.Add.{add_of, add_left};
 
 mod entry;
@@ -12,122 +11,122 @@ mod formed;
 mod walk;
 mod writer;
 
-use parts::{Refusal, Told};
+use parts::Refusal;
+use walk::GoodBook;
 
-// The place of a number in a book: where the first entry begins whose number is not below it, or the book's end, and how long that entry is
-// where it has the number, else 0.
+// The two books of a search.
+#[derive(Clone, Copy, PartialEq, Eq)]
+pub enum Book {
+    Line,
+    Factory,
+}
+
+impl Book {
+    // The number that C knows it by.
+    pub fn number(self) -> u32
+        ensures { result ≡ book_number self }
+    {
+        match self {
+            Book::Line => 1,
+            Book::Factory => 2,
+        }
+    }
+}
+
+// The entry of a number in a book: where it begins, and its length.
 #[derive(Clone, Copy)]
 pub struct Place {
     pub at: usize,
     pub size: usize,
 }
 
-// What a search tells: whether it was accepted; the book, 1 line, 2 factory, 0 none, under 18 the malformed one; where the job record begins
-// there, and its length.
+// Where a search found the job record: in which book, where it begins there, and its length.
 #[derive(Clone, Copy)]
 pub struct Found {
-    pub told: Told,
-    pub book: u32,
+    pub book: Book,
     pub from: usize,
     pub length: usize,
 }
 
-// What the writer tells: whether it was accepted, and how many bytes it wrote.
+// Why a search found nothing, and, where a book is malformed, which one.
 #[derive(Clone, Copy)]
-pub struct Added {
-    pub told: Told,
-    pub length: usize,
+pub struct NotFound {
+    pub book: Option<Book>,
+    pub refusal: Refusal,
 }
 
 // Found in this book, at this place.
-fn found_in(book: u32, p: Place) -> Found
+fn found_in(book: Book, p: Place) -> Result<Found, NotFound>
     requires { (6 ≤ p.size) × (p.at + p.size < 2 ^ 64) }
-    ensures { result ≡ found_in book p }
+    ensures { result ≡ found_in book p.at p.size }
 {
-    Found {
-        told: Told::Accepted,
-        book: book,
+    Ok(Found {
+        book,
         from: p.at + entry::HEAD,
         length: p.size - entry::HEAD,
-    }
-}
-
-// Nothing is found: a book is malformed, or none has the number.
-fn nowhere(book: u32, r: Refusal) -> Found
-    ensures { result ≡ nowhere book r }
-{
-    Found {
-        told: Told::Refused(r),
-        book: book,
-        from: 0,
-        length: 0,
-    }
+    })
 }
 
 // Two good books are searched, the line book first.
-fn in_books(line: &[u8], factory: &[u8], number: u32) -> Found
-    requires { (book_told line.now ≡ Accepted) × (book_told factory.now ≡ Accepted) }
-    ensures { result ≡ in_books line.now factory.now number }
+#[tactic(auto, using(crate::proofs::Finds::place_fits, crate::proofs::Finds::from_line, crate::proofs::Finds::from_factory, crate::proofs::Finds::from_none))]
+fn in_books(line: GoodBook, factory: GoodBook, number: u32) -> Result<Found, NotFound>
+    ensures { result ≡ in_books line.entry.bytes.now factory.entry.bytes.now number }
 {
-    let p = walk::place_of(line, number);
-    if 0 < p.size {
-        return found_in(1, p);
+    if let Ok(p) = line.place_of(number) {
+        return found_in(Book::Line, p);
     }
-    let q = walk::place_of(factory, number);
-    if 0 < q.size {
-        return found_in(2, q);
+    if let Ok(q) = factory.place_of(number) {
+        return found_in(Book::Factory, q);
     }
-    nowhere(0, Refusal::NotThere)
+    Err(NotFound {
+        book: None,
+        refusal: Refusal::NotThere,
+    })
 }
 
 // Both books are checked whole, the line book first; then the number is looked for. Refused: 18, 19.
-pub fn find(line: &[u8], factory: &[u8], number: u32) -> Found
+#[tactic(auto, unfolding(crate::specs::Book::find_of))]
+pub fn find(line: &[u8], factory: &[u8], number: u32) -> Result<Found, NotFound>
     ensures { result ≡ find_of line.now factory.now number }
 {
-    let told = walk::book_told(line);
-    match told {
-        Told::Refused(r) => return nowhere(1, r),
-        Told::Accepted => {}
-    }
-    let told = walk::book_told(factory);
-    match told {
-        Told::Refused(r) => nowhere(2, r),
-        Told::Accepted => in_books(line, factory, number),
-    }
+    let line = GoodBook::checked(line).map_err(|refusal| NotFound {
+        book: Some(Book::Line),
+        refusal,
+    })?;
+    let factory = GoodBook::checked(factory).map_err(|refusal| NotFound {
+        book: Some(Book::Factory),
+        refusal,
+    })?;
+    in_books(line, factory, number)
 }
 
 // The job record as it stands inside the book that has it; an empty part where `find` refuses.
+#[tactic(auto, using(crate::proofs::Finds::line_fits, crate::proofs::Finds::factory_fits, crate::proofs::Finds::line_part, crate::proofs::Finds::line_stands, crate::proofs::Finds::factory_part, crate::proofs::Finds::factory_stands, crate::proofs::Finds::empty_part, crate::proofs::Finds::empty_factory, crate::proofs::Finds::empty_line, crate::proofs::Finds::empty_none))]
 pub fn lookup<'a>(line: &'a [u8], factory: &'a [u8], number: u32) -> &'a [u8]
     ensures bytes { result.now ≡ lookup_of line.now factory.now number }
     ensures stands { result.ref_ptr ≡ lookup_at line.now factory.now number line.entry.ref_ptr factory.entry.ref_ptr }
 {
-    let f = find(line, factory, number);
-    let from = f.from;
-    let to = from + f.length;
-    if f.book == 2 {
-        return &factory[from..to];
+    match find(line, factory, number) {
+        Ok(f) => match f.book {
+            Book::Line => &line[f.from..f.from + f.length],
+            Book::Factory => &factory[f.from..f.from + f.length],
+        },
+        Err(refused) => match refused.book {
+            Some(Book::Factory) => &factory[0..0],
+            Some(Book::Line) | None => &line[0..0],
+        },
     }
-    &line[from..to]
 }
 
-// A book with one job more, in its place, written to the front of a lent buffer; the bytes after it stay. Refused: 18, 19, 5, 6, 5, 7, 20,
-// 13, and nothing is written then.
-pub fn add(book: &[u8], number: u32, rec: &[u8], buf: &mut [u8]) -> Added
+// A book with one job more, in its place, written to the front of a lent buffer; the bytes after it stay. Tells the length of what was
+// written. Refused: 18, 19, 5, 6, 5, 7, 20, 13, and nothing is written then.
+#[tactic(auto, unfolding(crate::specs::Add::add_of, crate::specs::Add::add_left, crate::specs::Add::add_told), using(crate::proofs::Adds::adds_by))]
+pub fn add(book: &[u8], number: u32, rec: &[u8], buf: &mut [u8]) -> Result<usize, Refusal>
     ensures value { result ≡ add_of book.now number rec.now (length buf.old) }
     ensures buf_after { buf.new ≡ add_left book.now number rec.now buf.old }
 {
-    let told = writer::add_told(book, number, rec, buf.len());
-    match told {
-        Told::Refused(_) => Added {
-            told: told,
-            length: 0,
-        },
-        Told::Accepted => {
-            writer::written(book, number, rec, buf);
-            Added {
-                told: Told::Accepted,
-                length: book.len() + (entry::HEAD + rec.len()),
-            }
-        }
-    }
+    let good = GoodBook::checked(book)?;
+    writer::add_told(good, number, rec, buf.len())?;
+    writer::written(good, number, rec, buf);
+    Ok(book.len() + (entry::HEAD + rec.len()))
 }

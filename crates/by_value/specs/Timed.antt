@@ -2,7 +2,7 @@
 use Rattle.std.specs.Prelude.{ℕ, zero, suc, ◌+◌, List, [], ◌∷◌}
 use Rattle.parts.specs.Parts.{next32}
 use Rattle.parts.specs.Told.{on_told}
-use Rattle.parts.specs.declared.Told.{Told}
+use Rattle.parts.specs.Told.{Told}
 use Rattle.engine.specs.Calls.{begin_of, step_of}
 use Rattle.engine.specs.declared.Engine.{Engine}
 

@@ -1,7 +1,8 @@
--- Tests on a number that a callee read, r; and what is known of a record that is not cut short, or is accepted.
-use Prim.Native.Nat.{ℕ, zero, suc, ◌+◌, ◌-◌, ◌≤◌, ◌<◌}
+-- What is known of a record that is not cut short, or is accepted.
+use Rattle.std.specs.Prelude.{Ok}
+use Prim.Native.Nat.{ℕ, zero, suc, ◌+◌, ◌-◌, ◌≤◌}
 use mathlib.Core.Path.{◌≡◌, refl, ◌∙◌, sym, ap, subst}
-use mathlib.Core.Bool.{Bool, true, false}
+use mathlib.Core.Bool.{Bool, false}
 use mathlib.Core.List.{List, [], ◌∷◌}
 use native.Mathlib.Omega.{arith}
 use mir.Syntax.{w8}
@@ -10,40 +11,16 @@ use lib.Dec.{ltb}
 use lib.ListN.{length, take, drop, length-drop}
 use borrow.Author.Tests.{ltb-false}
 use Rattle.parts.specs.Lay.{lay}
-use Rattle.parts.specs.Pick.{pick, ◌or◌}
+use Rattle.parts.specs.Pick.{◌or◌}
 use Rattle.parts.specs.Told.{first_of}
 use Rattle.parts.specs.declared.Refusal.TheVariants.{Length, Kind, Buffer, CallRecord}
-use Rattle.parts.specs.declared.Told.{Told}
-use Rattle.parts.specs.declared.Told.TheVariants.{Accepted}
-use Rattle.parts.proofs.Laws.{pick_eq, pick_ne, pick_lt, pick_nlt}
+use Rattle.parts.proofs.Laws.{pick_eq, pick_ne}
 use Rattle.parts.proofs.Order.{first_all, row_passes, neither, not_isnt}
 use Rattle.records.specs.Bytes.{length_field, kind_field, header}
 use Rattle.records.specs.Job.{forms, form_order}
 use Rattle.records.proofs.Form.{form_four}
 use Rattle.records.proofs.Laws.{part_end}
 use Rattle.calls.specs.Record.{call_kind, last_call, call_field, lock_field, last_field, cut_short, no_call_length, lock_unused, bad_head, record_order, record_told, capped_of, record_with, call_with, call_record, record_length, write_order, write_told}
-
-pub lt_by : {A : Type 0} (r a b : ℕ) (x y z : A) → r ≡ a → r < b → x ≡ y → x ≡ pick (ltb a b) y z
-lt_by r a b x y z q h e = pick_lt r b x y z h e ∙ ap (λ (n : ℕ). pick (ltb n b) y z) q
-
-pub nlt_by : {A : Type 0} (r a b : ℕ) (x y z : A) → r ≡ a → b ≤ r → x ≡ z → x ≡ pick (ltb a b) y z
-nlt_by r a b x y z q h e = pick_nlt r b x y z h e ∙ ap (λ (n : ℕ). pick (ltb n b) y z) q
-
-pub short_by : {A : Type 0} (r a b : ℕ) (x y z : A) → r ≡ b → a < r → x ≡ y → x ≡ pick (ltb a b) y z
-short_by r a b x y z q h e = pick_lt a r x y z h e ∙ ap (λ (n : ℕ). pick (ltb a n) y z) q
-
-pub room_by : {A : Type 0} (r a b : ℕ) (x y z : A) → r ≡ b → r ≤ a → x ≡ z → x ≡ pick (ltb a b) y z
-room_by r a b x y z q h e = pick_nlt a r x y z h e ∙ ap (λ (n : ℕ). pick (ltb a n) y z) q
-
-pub head_by :
-    (r n call lock last : ℕ) (x : Bool) → r ≡ n → 8 ≤ r → x ≡ bad_head call lock last r →
-    x ≡ (ltb n 8 or bad_head call lock last n)
-head_by r n call lock last x q h e = nlt_by r n 8 x true _ q h (e ∙ ap (bad_head call lock last) q)
-
-pub above_by : (r a b : ℕ) (x : Bool) → r ≡ b → x ≡ ltb a r → x ≡ ltb a b
-above_by r a b x q e = e ∙ ap (ltb a) q
-
-pub ruleset reads = (lt_by, nlt_by, short_by, room_by, head_by, above_by)
 
 -- a record is not cut short
 whole_known : (s : List ℕ) (r : Bool) → r ≡ cut_short s → r ≡ false → (4 ≤ length s) × (length_field s ≤ length s)
@@ -70,7 +47,7 @@ pub record Holds (s : List ℕ) : Type 0 where
   pub lock : lock_unused (call_field s) (lock_field s) ≡ false
   pub size : no_call_length (call_field s) (length_field s) ≡ false
 
-pub holds : (s : List ℕ) → record_told s ≡ Accepted → Holds s
+pub holds : (s : List ℕ) → record_told s ≡ Ok tt → Holds s
 unfolding record_told bad_head
 holds s h =
     let row = first_all (record_order s) h in
@@ -90,18 +67,17 @@ holds s h =
       size = d.1;
     }
 
--- by what a callee told
-pub accepted_by : (t u : Told) → t ≡ u → t ≡ Accepted → u ≡ Accepted
-accepted_by t u q h = sym q ∙ h
+-- it has its first eight bytes, and its call is one
+pub holds_eight : (s : List ℕ) → record_told s ≡ Ok tt → 8 ≤ length s
+holds_eight s h = omega (arith, (holds s h).least, (holds s h).whole)
 
-pub holds_two : (s : List ℕ) → record_told s ≡ Accepted → 2 ≤ length s
-holds_two s h = omega (arith, (holds s h).least, (holds s h).whole)
+pub holds_call : (s : List ℕ) → record_told s ≡ Ok tt → call_field s ≤ last_call
+holds_call s h = (holds s h).call
 
--- what a callee read is its length
-pub holds_least : (s : List ℕ) (r : ℕ) → record_told s ≡ Accepted → r ≡ length_field s → 8 ≤ r
+pub holds_least : (s : List ℕ) (r : ℕ) → record_told s ≡ Ok tt → r ≡ length_field s → 8 ≤ r
 holds_least s r h e = omega (arith, (holds s h).least)
 
-pub holds_whole : (s : List ℕ) (r : ℕ) → record_told s ≡ Accepted → r ≡ length_field s → r ≤ length s
+pub holds_whole : (s : List ℕ) (r : ℕ) → record_told s ≡ Ok tt → r ≡ length_field s → r ≤ length s
 holds_whole s r h e = omega (arith, (holds s h).whole)
 
 -- a record's header, four bytes past it, and the instructions past these
@@ -124,10 +100,10 @@ record_size call w l code = omega arith
 -- a writer that was accepted: the call is one, a begin has a job record, and the buffer has room
 pub record Fits (call : ℕ) (rec : List ℕ) (room : ℕ) : Type 0 where
   pub most : call ≤ last_call
-  pub form : call ≡ 0 → first_of (form_order forms rec) ≡ Accepted
+  pub form : call ≡ 0 → first_of (form_order forms rec) ≡ Ok tt
   pub fit : record_length call rec ≤ room
 
-pub fits : (call : ℕ) (rec : List ℕ) (room : ℕ) → write_told call rec room ≡ Accepted → Fits call rec room
+pub fits : (call : ℕ) (rec : List ℕ) (room : ℕ) → write_told call rec room ≡ Ok tt → Fits call rec room
 unfolding write_told
 fits call rec room h =
     let row = first_all (write_order call rec room) h in
@@ -138,7 +114,7 @@ fits call rec room h =
     }
 
 -- of a begin: its instructions stand from byte 4 on
-module _ (call : ℕ) (rec : List ℕ) (room : ℕ) (h : write_told call rec room ≡ Accepted) where
+module _ (call : ℕ) (rec : List ℕ) (room : ℕ) (h : write_told call rec room ≡ Ok tt) where
   pub begin_four : call ≡ 0 → 4 ≤ length rec
   begin_four e = form_four rec (first_of (form_order forms rec)) refl ((fits call rec room h).form e)
 
@@ -182,7 +158,7 @@ pub begin_laid :
     next ≡ lay 0 (call_record (call_with call w l rec)) buf
 begin_laid call w l rec buf next e h = h ∙ ap (λ (r : List ℕ). lay 0 r buf) (begin_record call w l rec e)
 
-module _ (call w l room : ℕ) (rec : List ℕ) (e : call ≡ 0 → ⊥) (h : write_told call rec room ≡ Accepted) where
+module _ (call w l room : ℕ) (rec : List ℕ) (e : call ≡ 0 → ⊥) (h : write_told call rec room ≡ Ok tt) where
   record_is : record_with call w 0 [] ≡ call_record (call_with call w l rec)
   record_is = other_record call w l rec e (fits call rec room h).most
 
@@ -192,3 +168,6 @@ module _ (call w l room : ℕ) (rec : List ℕ) (e : call ≡ 0 → ⊥) (h : wr
   pub other_laid :
       (buf next : List ℕ) → next ≡ lay 0 (record_with call w 0 []) buf → next ≡ lay 0 (call_record (call_with call w l rec)) buf
   other_laid buf next q = q ∙ ap (λ (r : List ℕ). lay 0 r buf) record_is
+
+-- what `put_call` goes by
+pub ruleset writes = (begin_four, begin_room, other_room, call_byte, begin_count, begin_laid, other_count, other_laid)

@@ -96,7 +96,7 @@ record_length call rec = pick (eqb call 0) (4 + length rec) 8
 abbrev pub write_order : ℕ → List ℕ → ℕ → List Told
 write_order call rec room =
     refuse_if (ltb last_call call) CallRecord ∷
-    pick (eqb call 0) (first_of (form_order forms rec)) Accepted ∷
+    pick (eqb call 0) (first_of (form_order forms rec)) (Ok tt) ∷
     refuse_if (ltb room (record_length call rec)) Buffer ∷
     []
 
@@ -104,7 +104,7 @@ unfoldable pub write_told : ℕ → List ℕ → ℕ → Told
 write_told call rec room = first_of (write_order call rec room)
 
 -- what it tells, and the buffer after it
-unfoldable pub recorded_of : ℕ → ℕ → ℕ → List ℕ → ℕ → WriteTold
+unfoldable pub recorded_of : ℕ → ℕ → ℕ → List ℕ → ℕ → Result ℕ Refusal
 recorded_of call w l rec room = write_of (write_told call rec room) (call_record (call_with call w l rec))
 
 unfoldable pub recorded_in : ℕ → ℕ → ℕ → List ℕ → List ℕ → List ℕ

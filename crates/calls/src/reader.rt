@@ -1,43 +1,37 @@
-// A reader over call records, one after the other: a struct that holds the recorded bytes and its place. The functions over the struct
-// are few and thin: what they do is done by `item_at` and `past_at`, on a plain slice and a number.
-ghost use Rattle.std.specs.Prelude.{◌≡◌};
-ghost use Rattle.calls.specs.Reader.{item_at, past_at, handed_with, handed_at};
+// A reader over call records, one after the other: a struct that holds the recorded bytes and its place, and hands them out as an
+// iterator.
+ghost use Rattle.std.specs.Prelude.{◌≡◌, ◌-◌, length};
+ghost use Rattle.std.specs.Iterator.{at_most};
+ghost use Rattle.calls.specs.Reader.{item_at, past_item, Hands};
 
 use crate::record::{record_told, size_of};
-use parts::{Refusal, Told};
+use parts::Refusal;
 
-// What stands at a place: a call record, from its first byte up to the byte past it; one that is refused; the end.
-#[derive(Clone, Copy)]
-pub enum Item {
-    Record(usize, usize),
-    Refused(Refusal),
-    End,
-}
-
-// What stands at a place of the recorded bytes.
-pub fn item_at(bytes: &[u8], place: usize) -> Item
+// What stands at a place of the recorded bytes: a call record, from its first byte up to the byte past it, or why it is refused; nothing
+// at their end.
+#[tactic(auto, using(crate::proofs::Items::items))]
+pub fn item_at(bytes: &[u8], place: usize) -> Option<Result<(usize, usize), Refusal>>
     ensures { result ≡ item_at bytes.now place }
 {
     if bytes.len() <= place {
-        return Item::End;
+        return None;
     }
     let rest = &bytes[place..];
     let told = record_told(rest);
     match told {
-        Told::Refused(r) => Item::Refused(r),
-        Told::Accepted => Item::Record(place, place + size_of(rest)),
+        Err(r) => Some(Err(r)),
+        Ok(()) => Some(Ok((place, place + size_of(rest)))),
     }
 }
 
-// Where reading goes on after it.
-pub fn past_at(bytes: &[u8], place: usize) -> usize
-    ensures { result ≡ past_at bytes.now place }
+// Where reading goes on after an item: past a record; a refused one is the last.
+fn past_item(item: Option<Result<(usize, usize), Refusal>>, end: usize, place: usize) -> usize
+    ensures { result ≡ past_item item end place }
 {
-    let item = item_at(bytes, place);
     match item {
-        Item::Record(_, to) => to,
-        Item::Refused(_) => bytes.len(),
-        Item::End => place,
+        Some(Ok((_, to))) => to,
+        Some(Err(_)) => end,
+        None => place,
     }
 }
 
@@ -53,52 +47,17 @@ pub fn reader_at<'a>(bytes: &'a [u8], place: usize) -> Reader<'a>
     Reader { bytes, place }
 }
 
-impl<'a> Reader<'a> {
-    // What stands at the reader's place.
-    pub fn item(self) -> Item
-        ensures { result ≡ item_at self.entry.bytes.now self.entry.place }
-    {
-        item_at(self.bytes, self.place)
+impl<'a> Iterator for Reader<'a> {
+    type Item = Result<(usize, usize), Refusal>;
+
+    // The item that stands at its place, and the reader past it.
+    ghost next_gives = { Hands };
+
+    ghost remaining = { λ r. at_most (length r.bytes.now - r.place) };
+
+    fn next(&mut self) -> Option<Result<(usize, usize), Refusal>> {
+        let item = item_at(self.bytes, self.place);
+        self.place = past_item(item, self.bytes.len(), self.place);
+        item
     }
-
-    // The reader past it.
-    pub fn past(self) -> Reader<'a>
-        ensures { (result.bytes ≡ self.entry.bytes) × (result.place ≡ past_at self.entry.bytes.now self.entry.place) }
-    {
-        let place = past_at(self.bytes, self.place);
-        Reader {
-            bytes: self.bytes,
-            place,
-        }
-    }
-
-    pub fn at(self) -> usize
-        ensures { result ≡ self.entry.place }
-    {
-        self.place
-    }
-}
-
-// What the reader hands out, and where it stands then.
-#[derive(Clone, Copy)]
-pub struct Handed {
-    pub item: Item,
-    pub place: usize,
-}
-
-fn hands(item: Item, place: usize) -> Handed
-    ensures { result ≡ handed_with item place }
-{
-    Handed { item, place }
-}
-
-// A reader at the place hands out what stands there and goes on. Callers lend a plain slice.
-pub fn hand_out(bytes: &[u8], place: usize) -> Handed
-    ensures { result ≡ handed_at bytes.now place }
-{
-    let r = reader_at(bytes, place);
-    let item = r.item();
-    let next = r.past();
-    let at = next.at();
-    hands(item, at)
 }

@@ -1,10 +1,11 @@
 // The record at the front of a slice: is it a call record?
 ghost use Rattle.std.specs.Prelude.{◌≡◌, ◌≤◌, length};
-ghost use Rattle.parts.specs.declared.Told.TheVariants.{Accepted};
 ghost use Rattle.records.specs.Bytes.{length_field};
-ghost use Rattle.calls.specs.Record.{no_call_length, lock_unused, cut_short, bad_head, no_call, record_told};
+ghost use Rattle.calls.specs.Kind.{kind_number};
+ghost use Rattle.calls.specs.Record.{call_field, no_call_length, lock_unused, cut_short, bad_head, no_call, record_told};
 
-use parts::{INSTRUCTIONS, Refusal, Told};
+use crate::kind::CallKind;
+use parts::{INSTRUCTIONS, Refusal};
 
 // The length of a call's record.
 fn no_call_length(call: u8, n: usize) -> bool
@@ -14,20 +15,14 @@ fn no_call_length(call: u8, n: usize) -> bool
     if call == 0 {
         return records::job::no_job_length(1, INSTRUCTIONS, n - 4);
     }
-    if n == 8 {
-        return false;
-    }
-    true
+    n != 8
 }
 
 // Only begin names a lock.
 fn unused_lock(call: u8, lock: u8) -> bool
     ensures { result ≡ lock_unused call lock }
 {
-    if call == 0 {
-        return false;
-    }
-    0 < lock
+    call != 0 && 0 < lock
 }
 
 // "a record cut short or a length field below 4"
@@ -38,27 +33,16 @@ fn cut_short(s: &[u8]) -> bool
         return true;
     }
     let n = records::length_of(s);
-    if n < 4 {
-        return true;
-    }
-    s.len() < n
+    n < 4 || s.len() < n
 }
 
 // "a call above 3, a last head byte or unused lock not 0, or a length not 8 (begin: 8 + 4n)"
+#[tactic(auto, unfolding(crate::specs::Record::bad_head))]
 fn bad_head(call: u8, lock: u8, last: u8, n: usize) -> bool
     requires { 8 ≤ n }
     ensures { result ≡ bad_head call lock last n }
 {
-    if 3 < call {
-        return true;
-    }
-    if 0 < last {
-        return true;
-    }
-    if unused_lock(call, lock) {
-        return true;
-    }
-    no_call_length(call, n)
+    3 < call || 0 < last || unused_lock(call, lock) || no_call_length(call, n)
 }
 
 // A record of fewer than 8 bytes does not have them all.
@@ -67,32 +51,40 @@ fn no_call(s: &[u8]) -> bool
     ensures { result ≡ no_call s.now }
 {
     let n = records::length_of(s);
-    if n < 8 {
-        return true;
-    }
-    bad_head(s[4], s[6], s[7], n)
+    n < 8 || bad_head(s[4], s[6], s[7], n)
 }
 
 // Its refusals: 5, then 6, then 17.
-pub fn record_told(s: &[u8]) -> Told
+#[tactic(auto, using(crate::proofs::Laws::whole_four, crate::proofs::Laws::whole_size), unfolding(crate::specs::Record::record_told))]
+pub fn record_told(s: &[u8]) -> Result<(), Refusal>
     ensures { result ≡ record_told s.now }
 {
     if cut_short(s) {
-        return Told::Refused(Refusal::Length);
+        return Err(Refusal::Length);
     }
     if records::kind_of(s) != 3 {
-        return Told::Refused(Refusal::Kind);
+        return Err(Refusal::Kind);
     }
     if no_call(s) {
-        return Told::Refused(Refusal::CallRecord);
+        return Err(Refusal::CallRecord);
     }
-    Told::Accepted
+    Ok(())
 }
 
 // How long an accepted record is.
+#[tactic(auto, using(crate::proofs::Laws::holds_least, crate::proofs::Laws::holds_whole))]
 pub fn size_of(s: &[u8]) -> usize
-    requires { record_told s.now ≡ Accepted }
+    requires { record_told s.now ≡ Ok tt }
     ensures { (result ≡ length_field s.now) × (8 ≤ result) × (result ≤ length s.now) }
 {
     records::length_of(s)
+}
+
+// Which call an accepted record makes.
+#[tactic(auto, using(crate::proofs::Laws::holds_eight, crate::proofs::Laws::holds_call))]
+pub fn call_of(s: &[u8]) -> CallKind
+    requires { record_told s.now ≡ Ok tt }
+    ensures { kind_number result ≡ call_field s.now }
+{
+    CallKind::try_from(u32::from(s[4])).unwrap()
 }

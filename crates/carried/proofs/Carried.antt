@@ -1,4 +1,5 @@
 -- By the laws of the numbers that each call leaves (lent_step, lent, lent_in), one call after the other; then by demand 3.
+use Rattle.std.specs.Prelude.{Err, Ok}
 use Prim.Native.Nat.{ℕ, ◌≤◌, ◌<◌}
 use mathlib.Core.Path.{◌≡◌, refl, sym, ap, ◌∙◌, subst}
 use mathlib.Core.Bool.{Bool, true, false}
@@ -10,15 +11,13 @@ use borrow.Author.Tests.{lt-ltb, le-ltb}
 use Rattle.parts.specs.Pick.{pick}
 use Rattle.parts.specs.Told.{on_told}
 use Rattle.parts.specs.declared.Refusal.{Refusal}
-use Rattle.parts.specs.declared.Told.{Told}
-use Rattle.parts.specs.declared.Told.TheVariants.{Accepted, Refused}
+use Rattle.parts.specs.Told.{Told}
 use Rattle.cells.specs.Layout.{numbers, unpack, blanked}
 use Rattle.cells.proofs.Unpack.{Says}
 use Rattle.records.specs.Setup.{setup_told}
 use Rattle.steps.specs.Worker.{dropped_of}
 use Rattle.engine.specs.State.{blank_of, worker_at, with_worker}
 use Rattle.engine.specs.Calls.{outcome_of, fresh_of, setup_of, begin_told, taken_of, begin_of, step_told, onward_of, step_of, collect_told, collect_of, drop_told, drop_of}
-use Rattle.engine.specs.declared.CollectTold.{CollectTold}
 use Rattle.engine.specs.declared.Engine.{Engine}
 use Rattle.lent.specs.Calls.{collect_numbers, drop_numbers}
 use Rattle.lent.proofs.Says.{collect_says, drop_says}
@@ -138,16 +137,16 @@ short s n =
     }
 
 -- what an outcome tells that is refused
-refused_by_lem : (e : Engine) (t : Told) (next : Engine) (r : Refusal) → (outcome_of e t next).told ≡ Refused r → t ≡ Refused r
-refused_by_lem e Accepted next r h = let z : ◌≡◌ {A = ℕ} 0 1 = cc in absurd (omega arith)
-refused_by_lem e (Refused q) next r h = h
+refused_by_lem : (e : Engine) (t : Told) (next : Engine) (r : Refusal) → (outcome_of e t next).told ≡ Err r → t ≡ Err r
+refused_by_lem e (Ok _) next r h = let z : ◌≡◌ {A = ℕ} 0 1 = cc in absurd (omega arith)
+refused_by_lem e (Err q) next r h = h
 
 -- what a call leaves of the numbers where it is refused
-left : (t : Told) (r : Refusal) (next s : List ℕ) → t ≡ Refused r → on_told t next (λ q. s) ≡ s
+left : (t : Told) (r : Refusal) (next s : List ℕ) → t ≡ Err r → on_told t next (λ q. s) ≡ s
 left t r next s h = ap (λ (t : Told). on_told t next (λ q. s)) h
 
 begin_left_lem :
-    (s : List ℕ) (w l : ℕ) (rec : List ℕ) (r : Refusal) → (begin_of (unpack s) w l rec).told ≡ Refused r →
+    (s : List ℕ) (w l : ℕ) (rec : List ℕ) (r : Refusal) → (begin_of (unpack s) w l rec).told ≡ Err r →
     lent_after s (Begin w l rec) ≡ s
 unfolding begin_of begin_numbers lent_after
 begin_left_lem s w l rec r h =
@@ -155,13 +154,13 @@ begin_left_lem s w l rec r h =
     (left (begin_told (unpack s) w l rec) r _ s
     (refused_by_lem (unpack s) (begin_told (unpack s) w l rec) (taken_of (unpack s) w l rec) r h))
 
-step_left : (s : List ℕ) (w : ℕ) (r : Refusal) → (step_of (unpack s) w).told ≡ Refused r → lent_after s (Step w) ≡ s
+step_left : (s : List ℕ) (w : ℕ) (r : Refusal) → (step_of (unpack s) w).told ≡ Err r → lent_after s (Step w) ≡ s
 unfolding step_of step_numbers lent_after
 step_left s w r h =
     either s _
     (left (step_told (unpack s) w) r _ s (refused_by_lem (unpack s) (step_told (unpack s) w) (onward_of (unpack s) w) r h))
 
-drop_left_lem : (s : List ℕ) (w : ℕ) (r : Refusal) → (drop_of (unpack s) w).told ≡ Refused r → lent_after s (Drop w) ≡ s
+drop_left_lem : (s : List ℕ) (w : ℕ) (r : Refusal) → (drop_of (unpack s) w).told ≡ Err r → lent_after s (Drop w) ≡ s
 unfolding drop_of drop_numbers lent_after
 drop_left_lem s w r h =
     either s _
@@ -169,19 +168,19 @@ drop_left_lem s w r h =
     (refused_by_lem (unpack s) (drop_told (unpack s) w) (with_worker (unpack s) w (dropped_of (worker_at (unpack s) w))) r h))
 
 setup_left_lem :
-    (s rec : List ℕ) (r : Refusal) → numbers ≤ length s → (setup_of rec).told ≡ Refused r → setup_left s rec ≡ blanked s
+    (s rec : List ℕ) (r : Refusal) → numbers ≤ length s → (setup_of rec).told ≡ Err r → setup_left s rec ≡ blanked s
 unfolding setup_of setup_numbers
 setup_left_lem s rec r n h =
     enough s _ _ n ∙ left (setup_told rec) r _ (blanked s) (refused_by_lem blank_of (setup_told rec) (fresh_of rec) r h)
 
 collect_left_lem :
-    (s : List ℕ) (w : ℕ) (r : Refusal) → (collect_of (unpack s) w).told ≡ CollectTold.Refused r → lent_after s (Collect w) ≡ s
+    (s : List ℕ) (w : ℕ) (r : Refusal) → (collect_of (unpack s) w).told ≡ Err r → lent_after s (Collect w) ≡ s
 unfolding collect_of collect_numbers lent_after
 collect_left_lem s w r h = either s _ (left (collect_told (unpack s) w) r _ s (go (collect_told (unpack s) w) h))
   where
-    go : (t : Told) → (collected_to (unpack s) w t).told ≡ CollectTold.Refused r → t ≡ Refused r
-    go Accepted e = let z : ◌≡◌ {A = ℕ} 0 1 = cc in absurd (omega arith)
-    go (Refused q) e = cc
+    go : (t : Told) → (collected_to (unpack s) w t).told ≡ Err r → t ≡ Err r
+    go (Ok _) e = let z : ◌≡◌ {A = ℕ} 0 1 = cc in absurd (omega arith)
+    go (Err q) e = cc
 
 pub carried : Carried
 carried =

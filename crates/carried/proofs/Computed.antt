@@ -1,5 +1,6 @@
 -- Row a once more, computed on the numbers themselves: a run of the definitions over 12,868 numbers, and by no law but that zeros laid
 -- over zeros are zeros. So the laws and the definitions agree on a whole history.
+use Rattle.std.specs.Prelude.{Ok}
 use Prim.Native.Nat.{ℕ}
 use mathlib.Core.Path.{◌≡◌, refl, sym, ap, ◌∙◌, subst}
 use mathlib.Core.List.{List, [], ◌∷◌}
@@ -11,8 +12,7 @@ use Rattle.parts.proofs.Lay.{lay_whole}
 use Rattle.parts.specs.Parts as parts
 use Rattle.parts.specs.Parts.{register_of, worn_of}
 use Rattle.parts.specs.Told.{on_told, answer_number, refusal_number, refusal_place}
-use Rattle.parts.specs.declared.Told.{Told}
-use Rattle.parts.specs.declared.Told.TheVariants.{Accepted}
+use Rattle.parts.specs.Told.{Told}
 use Rattle.records.specs.Bytes.{u32s_of}
 use Rattle.records.specs.Job.{badly_formed, code_told, instr_told, instrs_of, told_by, strays_at}
 use Rattle.records.specs.Setup.{guards_told, setup_told, turns_told}
@@ -43,7 +43,7 @@ blank_already : blanked zeros ≡ zeros
 unfolding blanked zeros
 blank_already = lay_whole (replicate numbers 0) (replicate numbers 0) refl
 
-accepted : setup_told setup_s ≡ Accepted
+accepted : setup_told setup_s ≡ Ok tt
 unfolding setup_told guards_told turns_told u32s_of setup_s
 accepted = refl
 

@@ -1,7 +1,8 @@
 -- By the rows of each call's order: those that tell a place of a record stand behind the one that bounds its length.
+use Rattle.std.specs.Prelude.{Err, Ok}
 use Prim.Native.Nat.{ℕ, zero, suc, ◌+◌, ◌*◌, ◌^◌, ◌≤◌, ◌<◌}
 use native.Mathlib.Omega.{arith}
-use mathlib.Core.Path.{◌≡◌, refl, subst}
+use mathlib.Core.Path.{◌≡◌, refl, subst, ap}
 use mathlib.Core.Bool.{Bool, true, false}
 use mathlib.Core.List.{List, [], ◌∷◌, ◌++◌, append-nil}
 use lib.Dec.{eqb, leb, ltb}
@@ -16,8 +17,7 @@ use Rattle.parts.specs.declared.Instr.{Instr}
 use Rattle.parts.specs.declared.LockWord.{LockWord}
 use Rattle.parts.specs.declared.Refusal.{Refusal}
 use Rattle.parts.specs.declared.Refusal.TheVariants.{NoWorker, NoLock, WorkerUnderWay, NotCollected, Length, Kind, Instruction, Guard, LastTurn, WorkerIdle, Range, Buffer, SheetFree, Held, NoWord, CallRecord}
-use Rattle.parts.specs.declared.Told.{Told}
-use Rattle.parts.specs.declared.Told.TheVariants.{Accepted, Refused}
+use Rattle.parts.specs.Told.{Told}
 use Rattle.parts.proofs.Order.{first_exactly, both_pass, neither, not_isnt}
 use Rattle.records.specs.Bytes.{wrong_length, u32s_bytes, kind_field}
 use Rattle.records.specs.Job.{forms, job_of, job_told, badly_formed, ends_otherwise, strays_at, no_job_kind, outside_kind, form_order}
@@ -27,22 +27,23 @@ use Rattle.records.proofs.Fours.{u32s_length, code_length, bytes_length}
 use Rattle.engine.specs.Calls.{is_free, write_of, show_told, show_of, park_told, park_of}
 use Rattle.engine.specs.State.{lock_at, lock_count, word_count, locks_of, words_of, base_of, program_length, program_of, sheet_record, state_record}
 use Rattle.engine.specs.declared.Engine.{Engine}
-use Rattle.engine.specs.declared.WriteTold.{WriteTold}
 use Rattle.calls.specs.Record.{last_call, call_with, call_record, record_length, write_order, write_told, recorded_of}
 use Rattle.calls.proofs.Laws.{record_size, fits as written}
 use Rattle.refusals.specs.Orders.{state_of, is_idle, is_under_way, is_finished, code_rows, begin_rows, plain_rows, step_rows, collect_rows, drop_rows, guard_rows, turn_rows, setup_rows, word_rows, lock_rows, show_rows, is_held, held_rows, park_rows, Given}
 use Rattle.there_and_back.proofs.Park.{wrote}
 use Rattle.plain.specs.Plain.{plain_told, ran_told, plain_of}
-use Rattle.plain.specs.declared.PlainTold.{PlainTold}
 use Rattle.alone.specs.Alone.{alone_of}
 use Rattle.alone.proofs.Bounds.{from_executed}
 use Rattle.refusals.proofs.Refusals.{exactly}
 use Rattle.carried.specs.Fits.{Fits}
+use Rattle.alone.specs.declared.Ran.{Ran}
+use Rattle.plain.specs.Plain.{ran}
+use Rattle.alone.specs.declared.Ran.{Ran}
 
 -- each row that can be the first to refuse tells a place below n
 Below : ℕ → List Told → Type 0
 Below n [] = Unit {0}
-Below n (t ∷ ts) = ((r : Refusal) → t ≡ Refused r → refusal_place r < n) × (t ≡ Accepted → Below n ts)
+Below n (t ∷ ts) = ((r : Refusal) → t ≡ Err r → refusal_place r < n) × (t ≡ Ok tt → Below n ts)
 
 -- so the refusal that is given tells one
 given_below : (n : ℕ) (rows : List Told) (r : Refusal) → Below n rows → Given rows r → refusal_place r < n
@@ -72,7 +73,7 @@ row n false r ts h k = (λ q e. let z : ◌≡◌ {A = ℕ} 0 1 = cc in absurd (
 
 -- one that is itself an order of rows
 told_row :
-    (n : ℕ) (t : Told) (ts : List Told) → ((r : Refusal) → t ≡ Refused r → refusal_place r < n) → Below n ts →
+    (n : ℕ) (t : Told) (ts : List Told) → ((r : Refusal) → t ≡ Err r → refusal_place r < n) → Below n ts →
     Below n (t ∷ ts)
 unfolding Below
 told_row n t ts h k = (h, λ _. k)
@@ -184,15 +185,18 @@ plain_below values guards l rec =
 
 plain_taken :
     (values guards : List ℕ) (l : ℕ) (rec : List ℕ) (said : Bool) (n : ℕ) (t : Told) → plain_told values guards l rec ≡ t →
-    on_told t (ran_told (alone_of (job_of rec) values)) (λ r. PlainTold.Refused r) ≡ PlainTold.Ran said n →
-    (job_told rec l guards ≡ Accepted) × (n ≡ (alone_of (job_of rec) values).executed)
+    on_told t (ran_told (alone_of (job_of rec) values)) (λ r. Err r) ≡ Ok (ran said n) →
+    (job_told rec l guards ≡ Ok tt) × (n ≡ (alone_of (job_of rec) values).executed)
 unfolding plain_told
-plain_taken values guards l rec said n Accepted e h =
-    ((both_pass (refuse_if (length values isnt length guards or ltb most_words (length values)) NoWord) (job_told rec l guards) e).1, cc)
-plain_taken values guards l rec said n (Refused r) e h = let z : ◌≡◌ {A = ℕ} 0 1 = cc in absurd (omega arith)
+plain_taken values guards l rec said n (Ok _) e h =
+    ((both_pass (refuse_if (length values isnt length guards or ltb most_words (length values)) NoWord) (job_told rec l guards) e).1, ap (λ (x : Ran). x.executed) same)
+  where
+    same : ran said n ≡ ran (alone_of (job_of rec) values).yes (alone_of (job_of rec) values).executed
+    same = cc
+plain_taken values guards l rec said n (Err r) e h = let z : ◌≡◌ {A = ℕ} 0 1 = cc in absurd (omega arith)
 
 executed_most :
-    (values guards : List ℕ) (l : ℕ) (rec : List ℕ) (said : Bool) (n : ℕ) → plain_of values guards l rec ≡ PlainTold.Ran said n → n ≤ instructions
+    (values guards : List ℕ) (l : ℕ) (rec : List ℕ) (said : Bool) (n : ℕ) → plain_of values guards l rec ≡ Ok (ran said n) → n ≤ instructions
 unfolding plain_of
 executed_most values guards l rec said n h =
     let taken = plain_taken values guards l rec said n (plain_told values guards l rec) refl h in
@@ -247,21 +251,21 @@ record_below : (call : ℕ) (rec : List ℕ) (room : ℕ) → Below 1 (write_ord
 unfolding refusal_place
 record_below call rec room =
     row 1 (ltb last_call call) CallRecord _ (omega arith) (λ _.
-    told_row 1 (pick (eqb call 0) (first_of (form_order forms rec)) Accepted) _ (form (eqb call 0))
+    told_row 1 (pick (eqb call 0) (first_of (form_order forms rec)) (Ok tt)) _ (form (eqb call 0))
     (one_below (ltb room (record_length call rec)) Buffer (omega arith)))
   where
-    form : (b : Bool) (r : Refusal) → pick b (first_of (form_order forms rec)) Accepted ≡ Refused r → refusal_place r < 1
+    form : (b : Bool) (r : Refusal) → pick b (first_of (form_order forms rec)) (Ok tt) ≡ Err r → refusal_place r < 1
     form true r h = given_below 1 (form_order forms rec) r (form_below rec) ((first_exactly (form_order forms rec) r).0 h)
     form false r h = let z : ◌≡◌ {A = ℕ} 0 1 = cc in absurd (omega arith)
 
 -- a writer that tells a refusal was refused so
-write_refused : (told : Told) (bytes : List ℕ) (r : Refusal) → write_of told bytes ≡ WriteTold.Refused r → told ≡ Refused r
-write_refused Accepted bytes r h = let z : ◌≡◌ {A = ℕ} 0 1 = cc in absurd (omega arith)
-write_refused (Refused q) bytes r h = cc
+write_refused : (told : Told) (bytes : List ℕ) (r : Refusal) → write_of told bytes ≡ Err r → told ≡ Err r
+write_refused (Ok _) bytes r h = let z : ◌≡◌ {A = ℕ} 0 1 = cc in absurd (omega arith)
+write_refused (Err q) bytes r h = cc
 
 -- the record of a call: at most 264 bytes
 call_size :
-    (call w l : ℕ) (rec : List ℕ) (room : ℕ) → write_told call rec room ≡ Accepted →
+    (call w l : ℕ) (rec : List ℕ) (room : ℕ) → write_told call rec room ≡ Ok tt →
     length (call_record (call_with call w l rec)) ≤ 8 + 4 * instructions
 unfolding call_with call_record
 call_size zero w l rec room h =

@@ -65,14 +65,14 @@ pub record Short (s : List ℕ) : Type 0 where
 pub record Carried : Type 0 where
   -- demand 1: a refusal leaves every number as it was; of a setup, the blank state's
   pub begin :
-      (s : List ℕ) (w l : ℕ) (rec : List ℕ) (r : Refusal) → (begin_of (unpack s) w l rec).told ≡ Refused r →
+      (s : List ℕ) (w l : ℕ) (rec : List ℕ) (r : Refusal) → (begin_of (unpack s) w l rec).told ≡ Err r →
       lent_after s (Begin w l rec) ≡ s
-  pub step : (s : List ℕ) (w : ℕ) (r : Refusal) → (step_of (unpack s) w).told ≡ Refused r → lent_after s (Step w) ≡ s
+  pub step : (s : List ℕ) (w : ℕ) (r : Refusal) → (step_of (unpack s) w).told ≡ Err r → lent_after s (Step w) ≡ s
   pub collect :
-      (s : List ℕ) (w : ℕ) (r : Refusal) → (collect_of (unpack s) w).told ≡ CollectTold.Refused r → lent_after s (Collect w) ≡ s
-  pub drop : (s : List ℕ) (w : ℕ) (r : Refusal) → (drop_of (unpack s) w).told ≡ Refused r → lent_after s (Drop w) ≡ s
+      (s : List ℕ) (w : ℕ) (r : Refusal) → (collect_of (unpack s) w).told ≡ Err r → lent_after s (Collect w) ≡ s
+  pub drop : (s : List ℕ) (w : ℕ) (r : Refusal) → (drop_of (unpack s) w).told ≡ Err r → lent_after s (Drop w) ≡ s
   pub setup :
-      (s rec : List ℕ) (r : Refusal) → numbers ≤ length s → (setup_of rec).told ≡ Refused r → setup_left s rec ≡ blanked s
+      (s rec : List ℕ) (r : Refusal) → numbers ≤ length s → (setup_of rec).told ≡ Err r → setup_left s rec ≡ blanked s
   pub short : (s : List ℕ) → length s < numbers → Short s
   -- From any numbers, through any calls whose records are bytes: they say the state that the calls by value give, and there are as
   -- many. Each call tells, on any numbers, what the call by value tells on the state that they say (demands 1 and 2).

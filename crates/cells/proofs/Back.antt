@@ -1,4 +1,5 @@
 -- What is written reads back, of pieces whose bytes are bytes.
+use Rattle.std.specs.Prelude.{None, Option, Some}
 use Prim.Native.Nat.{ℕ, ◌+◌, ◌*◌, ◌/◌, ◌<◌}
 use mathlib.Core.Bool.{Bool, true, false}
 use mathlib.Core.List.{List}
@@ -10,10 +11,6 @@ use Rattle.parts.specs.Told.{answer_number}
 use Rattle.parts.specs.declared.Answer.TheVariants.{RanYes, RanNo, NotTaken, Worn}
 use Rattle.parts.specs.declared.Answer.{Answer}
 use Rattle.parts.specs.declared.Entry.{Entry}
-use Rattle.parts.specs.declared.Fill.TheVariants.{Empty, Filled}
-use Rattle.parts.specs.declared.Fill.{Fill}
-use Rattle.parts.specs.declared.Holder.{Holder}
-use Rattle.parts.specs.declared.Holder.TheVariants.{Free, By}
 use Rattle.parts.specs.declared.Instr.{Instr}
 use Rattle.parts.specs.declared.LockWord.{LockWord}
 use Rattle.parts.specs.declared.Word.{Word}
@@ -27,6 +24,7 @@ use Rattle.steps.specs.declared.Worker.{Worker}
 use Rattle.engine.specs.declared.Sheet.{Sheet}
 use Rattle.cells.specs.Codes.{byte_of, flag_of, flag_number, holder_of, holder_number, lock_in, lock_numbers, word_in, word_numbers, sheet_in, sheet_numbers, packed_instr, instr_number, entry_in, entry_numbers, fill_numbers, run_in, answer_in, state_in, worker_in, run_numbers, point_numbers, state_numbers, worker_numbers, HolderFits, TryFits, RunFits, PointFits, StateFits}
 use Rattle.cells.specs.Layout.{worker_used}
+use Rattle.parts.specs.declared.Reading.{Reading}
 
 pub byte_back : (x : ℕ) → x < 256 → byte_of x ≡ x
 byte_back x h = omega arith
@@ -35,9 +33,9 @@ pub flag_back : (b : Bool) → flag_of (flag_number b) ≡ b
 flag_back true = refl
 flag_back false = refl
 
-holder_back : (h : Holder) → HolderFits h → holder_of (holder_number h) ≡ h
-holder_back Free o = refl
-holder_back (By s) o = simp (ne_eqb (s + 1) 0 (λ e. omega arith)) (ap By (omega arith))
+holder_back : (h : Option ℕ) → HolderFits h → holder_of (holder_number h) ≡ h
+holder_back None o = refl
+holder_back (Some s) o = simp (ne_eqb (s + 1) 0 (λ e. omega arith)) (ap Some (omega arith))
 
 pub answer_back : (a : Answer) → answer_in (answer_number a) ≡ a
 unfolding answer_in answer_number
@@ -73,9 +71,9 @@ instr_back x p q r s =
 pub entry_back : (x : Entry) → entry_in (entry_numbers x) ≡ x
 entry_back x = go x.fill
   where
-    go : (h : Fill) → entry_in (fill_numbers h) ≡ record { fill = h }
-    go Empty = refl
-    go (Filled r) = refl
+    go : (h : Option Reading) → entry_in (fill_numbers h) ≡ record { fill = h }
+    go None = refl
+    go (Some r) = refl
 
 run_back : (k : Worker) (tag value count new : ℕ) (r : Run) → RunFits r → run_in (run_numbers k tag r value count new) ≡ r
 run_back k tag value count new r o =
@@ -140,9 +138,9 @@ length_worker k = (state_common k.state k).long
 pub length_entry : (x : Entry) → length (entry_numbers x) ≡ 3
 length_entry x = go x.fill
   where
-    go : (h : Fill) → length (fill_numbers h) ≡ 3
-    go Empty = refl
-    go (Filled r) = refl
+    go : (h : Option Reading) → length (fill_numbers h) ≡ 3
+    go None = refl
+    go (Some r) = refl
 
 pub worker_back : (k : Worker) → TryFits k → StateFits k.state → worker_in (worker_numbers k) ≡ k
 unfolding worker_numbers

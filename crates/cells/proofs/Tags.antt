@@ -1,4 +1,5 @@
 -- The state that a worker is in, by its tag.
+use Rattle.std.specs.Prelude.{Err, Ok}
 use Prim.Native.Nat.{ℕ, zero, suc, ◌<◌, ◌≤◌}
 use mathlib.Core.Bool.{false}
 use mathlib.Core.List.{List}
@@ -8,7 +9,8 @@ use borrow.Author.Tests.{ne_eqb}
 use lib.Dec.{eqb}
 use Rattle.parts.specs.Numbers.{workers}
 use Rattle.parts.specs.declared.Answer.{Answer}
-use Rattle.steps.specs.Worker.{on_state}
+use Rattle.parts.specs.declared.Refusal.TheVariants.{WorkerUnderWay, NotCollected}
+use Rattle.steps.specs.Worker.{on_state, begin_by_state}
 use Rattle.steps.specs.declared.State.{State}
 use Rattle.steps.specs.declared.State.TheVariants.{Idle, Finished}
 use Rattle.steps.specs.declared.Worker.{Worker}
@@ -64,3 +66,17 @@ module _ (s : List ℕ) (w : ℕ) (b : w < workers) where
     where
       no : (k : ℕ) → (number_at s w at_tag ≡ k → ⊥) → eqb (number_at s w at_tag) k ≡ false
       no k h = ne_eqb (number_at s w at_tag) k h
+
+-- may it begin? by its tag
+module _ (s : List ℕ) (w : ℕ) (b : w < workers) (tag : ℕ) (e : tag ≡ number_at s w at_tag) where
+  pub begin_idle : tag ≡ idle_tag → Ok tt ≡ begin_by_state (worker_at (unpack s) w)
+  unfolding begin_by_state
+  begin_idle q = simp (tag_idle s w b tag e q)
+
+  pub begin_way : (tag ≡ idle_tag → ⊥) → tag ≤ release_tag → Err WorkerUnderWay ≡ begin_by_state (worker_at (unpack s) w)
+  unfolding begin_by_state
+  begin_way q h = sym (tag_way s w b _ _ _ tag e q h)
+
+  pub begin_end : release_tag < tag → Err NotCollected ≡ begin_by_state (worker_at (unpack s) w)
+  unfolding begin_by_state
+  begin_end h = simp (tag_end s w b tag e h)

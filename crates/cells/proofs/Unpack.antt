@@ -8,6 +8,7 @@ use lib.ListN.{get_or, length, replicate, length-replicate, get_or-append}
 use Rattle.parts.specs.Lay.{lay}
 use Rattle.parts.specs.Numbers.{workers, most_locks, most_words, sheets, entries}
 use Rattle.parts.proofs.Lay.{lay_is, length-lay}
+use Rattle.engine.specs.Inner.{Walked}
 use Rattle.engine.specs.State.{blank_of, with_worker}
 use Rattle.engine.specs.declared.Engine.{Engine}
 use Rattle.cells.specs.Codes.{byte_of, state_in}
@@ -239,3 +240,6 @@ unpack_whole s =
       entry = pieces_length entry_part s;
       worker = pieces_length worker_part s;
     }
+
+pub unpack_walked : (s : List ℕ) → Walked (unpack s)
+unpack_walked s = let w = unpack_whole s in record { word = w.word; lock = w.lock; program = w.program }

@@ -16,12 +16,12 @@ abbrev pub flag_number : Bool → ℕ
 flag_number b = pick b 1 0
 
 -- 0: free; s + 1: held by sheet s
-abbrev pub holder_of : ℕ → Holder
-holder_of x = pick (eqb x 0) Free (By (byte_of (x - 1)))
+abbrev pub holder_of : ℕ → Option ℕ
+holder_of x = pick (eqb x 0) None (Some (byte_of (x - 1)))
 
-abbrev pub holder_number : Holder → ℕ
-holder_number Free = 0
-holder_number (By s) = s + 1
+abbrev pub holder_number : Option ℕ → ℕ
+holder_number None = 0
+holder_number (Some s) = s + 1
 
 -- turn, holder
 abbrev pub lock_word_of : ℕ → ℕ → LockWord
@@ -62,12 +62,12 @@ abbrev pub instr_numbers : Instr → List ℕ
 instr_numbers x = instr_number x ∷ []
 
 -- 0: empty, any other: filled, and written as 1; value, count
-abbrev pub fill_of : ℕ → ℕ → ℕ → Fill
-fill_of filled value count = pick (eqb filled 0) Empty (Filled (record { value = value; count = count }))
+abbrev pub fill_of : ℕ → ℕ → ℕ → Option Reading
+fill_of filled value count = pick (eqb filled 0) None (Some (record { value = value; count = count }))
 
-abbrev pub fill_numbers : Fill → List ℕ
-fill_numbers Empty = 0 ∷ 0 ∷ 0 ∷ []
-fill_numbers (Filled r) = 1 ∷ r.value ∷ r.count ∷ []
+abbrev pub fill_numbers : Option Reading → List ℕ
+fill_numbers None = 0 ∷ 0 ∷ 0 ∷ []
+fill_numbers (Some r) = 1 ∷ r.value ∷ r.count ∷ []
 
 abbrev pub entry_in : List ℕ → Entry
 entry_in l = record { fill = fill_of (get_or l 0 0) (get_or l 1 0) (get_or l 2 0) }
@@ -235,9 +235,9 @@ unfoldable pub worker_numbers : Worker → List ℕ
 worker_numbers k = state_numbers k.state k
 
 -- The bytes of a piece are bytes: a function that takes the piece by value knows it.
-abbrev pub HolderFits : Holder → Type 0
-HolderFits Free = Unit {0}
-HolderFits (By s) = s < 256
+abbrev pub HolderFits : Option ℕ → Type 0
+HolderFits None = Unit {0}
+HolderFits (Some s) = s < 256
 
 pub record TryFits (k : Worker) : Type 0 where
   pub lock : k.lock < 256

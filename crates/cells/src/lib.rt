@@ -1,22 +1,23 @@
 // The state as numbers that a caller lends: each piece is read and written in place. Of a whole piece a contract gives the numbers
 // exactly, and the state that they say (`unpack`); of one number of a worker, the numbers alone.
+// That the numbers are enough stands at each function here and above: callers may lend more than a state takes, which `[u32; NUMBERS]` would
+// not let them, and what is written through a struct around the slice is not known of the slice once the struct is gone.
 #![tactic(auto)]
 
-ghost use Rattle.std.specs.Prelude.{◌≡◌, ◌≤◌, ◌<◌, length, get_or};
-ghost use Rattle.parts.specs.Numbers.{workers, most_locks, most_words, sheets, entries};
-ghost use Rattle.parts.specs.Parts.{word0, lock0, instr0, entry0, register_of};
-ghost use Rattle.steps.specs.Worker.{worker0};
-ghost use Rattle.engine.specs.State.{sheet0, blank_of, lock_count, word_count, with_worker};
+ghost use Rattle.std.specs.Prelude.{◌≡◌, ◌≤◌, ◌<◌, length};
+ghost use Rattle.parts.specs.Numbers.{workers};
+ghost use Rattle.parts.specs.Parts.{register_of};
+ghost use Rattle.engine.specs.State.{blank_of, lock_count, word_count};
 ghost use Rattle.cells.specs.Codes.{at_register};
-ghost use Rattle.cells.specs.Layout.{numbers, worker_used, unpack, number_at, run_now, read_now, seen_now, put_number, put_idle, put_sizes, put_worker, put_lock, put_word, put_sheet, put_instr, put_entry, blanked};
-ghost use Rattle.cells.specs.State.{with_sizes, with_lock, with_word, with_sheet, with_instr, with_entry};
+ghost use Rattle.cells.specs.Layout.{numbers, worker_used, unpack, number_at, run_now, read_now, seen_now, put_number, put_idle, put_sizes, blanked};
+ghost use Rattle.cells.specs.State.{with_sizes};
 
 pub mod codes;
+pub mod piece;
 pub mod worker;
 
 use crate::worker::{FILLED, IDLE, LOCK, OWN, STEPS, TAG};
-use engine::Sheet;
-use parts::{ENTRIES, Entry, Instr, LOCKS, LockWord, Reading, SHEETS, WORDS, WORKERS, Word};
+use parts::{ENTRIES, LOCKS, LockWord, Reading, SHEETS, WORDS, WORKERS};
 use steps::{Run, Worker};
 
 // From one piece to the next; the head has L and W. Every width leaves room.
@@ -55,14 +56,11 @@ pub fn blank(s: &mut [u32])
     requires { numbers ≤ length s.old }
     ensures { (s.new ≡ blanked s.old) × (unpack s.new ≡ blank_of) }
 {
-    let mut j: usize = 0;
-    while j < NUMBERS {
-        s[j] = 0;
-        j += 1;
-    }
+    s[..NUMBERS].fill(0);
 }
 
 // L as it stands, a byte.
+#[tactic(auto, unfolding(crate::specs::Layout::unpack))]
 fn lock_number(s: &[u32]) -> u8
     requires { numbers ≤ length s.now }
     ensures { result ≡ (unpack s.now).locks }
@@ -71,6 +69,7 @@ fn lock_number(s: &[u32]) -> u8
 }
 
 // W as it stands, a byte.
+#[tactic(auto, unfolding(crate::specs::Layout::unpack))]
 fn word_number(s: &[u32]) -> u8
     requires { numbers ≤ length s.now }
     ensures { result ≡ (unpack s.now).words }
@@ -83,43 +82,26 @@ pub fn lock_count(s: &[u32]) -> usize
     requires { numbers ≤ length s.now }
     ensures { result ≡ lock_count (unpack s.now) }
 {
-    let l = lock_number(s);
-    engine::read::lock_count(l)
+    engine::read::lock_count(lock_number(s))
 }
 
 pub fn word_count(s: &[u32]) -> usize
     requires { numbers ≤ length s.now }
     ensures { result ≡ word_count (unpack s.now) }
 {
-    let w = word_number(s);
-    engine::read::word_count(w)
+    engine::read::word_count(word_number(s))
 }
 
 pub fn put_sizes(s: &mut [u32], l: u8, w: u8)
     requires { numbers ≤ length s.old }
     ensures { (s.new ≡ put_sizes s.old l w) × (unpack s.new ≡ with_sizes (unpack s.old) l w) }
 {
-    let n = [l as u32, w as u32];
-    codes::write(s, 0, &n);
+    codes::write(s, 0, &[u32::from(l), u32::from(w)]);
 }
 
 // Of each kind: piece i, and the state with another piece there. A piece's numbers are counted from 0 on, as in specs/Codes.antt.
-pub fn get_worker(s: &[u32], i: usize) -> Worker
-    requires { (numbers ≤ length s.now) × (i < workers) }
-    ensures { result ≡ get_or (unpack s.now).worker i worker0 }
-{
-    worker::worker_at(s, WORKER_BASE + i * WORKER_WIDTH)
-}
-
-pub fn put_worker(s: &mut [u32], i: usize, k: Worker)
-    requires { (numbers ≤ length s.old) × (i < workers) }
-    ensures { (s.new ≡ put_worker s.old i k) × (unpack s.new ≡ with_worker (unpack s.old) i k) }
-{
-    let n = worker::worker_numbers(k);
-    codes::write(s, WORKER_BASE + i * WORKER_WIDTH, &n);
-}
-
 // Number j of worker w as it stands, and written.
+#[tactic(auto, unfolding(crate::specs::Layout::number_at))]
 pub fn get_number(s: &[u32], w: usize, j: usize) -> u32
     requires { (numbers ≤ length s.now) × (w < workers) × (j < worker_used) }
     ensures { result ≡ number_at s.now w j }
@@ -127,6 +109,7 @@ pub fn get_number(s: &[u32], w: usize, j: usize) -> u32
     s[WORKER_BASE + w * WORKER_WIDTH + j]
 }
 
+#[tactic(auto, unfolding(crate::specs::Layout::put_number))]
 pub fn put_number(s: &mut [u32], w: usize, j: usize, x: u32)
     requires { (numbers ≤ length s.old) × (w < workers) × (j < worker_used) }
     ensures { s.new ≡ put_number s.old w j x }
@@ -135,6 +118,7 @@ pub fn put_number(s: &mut [u32], w: usize, j: usize, x: u32)
 }
 
 // Worker w is idle.
+#[tactic(auto, unfolding(crate::specs::Layout::put_idle))]
 pub fn put_idle(s: &mut [u32], w: usize)
     requires { (numbers ≤ length s.old) × (w < workers) }
     ensures { s.new ≡ put_idle s.old w }
@@ -147,23 +131,23 @@ pub fn put_idle(s: &mut [u32], w: usize)
 }
 
 // Register i of worker w's run.
+#[tactic(auto, using(crate::proofs::Row::register_read))]
 pub fn get_register(s: &[u32], w: usize, i: u8) -> u32
     requires { (numbers ≤ length s.now) × (w < workers) }
     ensures { result ≡ register_of (run_now s.now w).registers i }
 {
-    let j = worker::at_register(i);
-    get_number(s, w, j)
+    get_number(s, w, worker::at_register(i))
 }
 
 pub fn put_register(s: &mut [u32], w: usize, i: u8, x: u32)
     requires { (numbers ≤ length s.old) × (w < workers) }
     ensures { s.new ≡ put_number s.old w (at_register i) x }
 {
-    let j = worker::at_register(i);
-    put_number(s, w, j, x);
+    put_number(s, w, worker::at_register(i), x);
 }
 
 // What worker w's numbers say of a run, of a reading and of a lock word seen, whatever the tag.
+#[tactic(auto, unfolding(crate::specs::Layout::run_now))]
 pub fn get_run(s: &[u32], w: usize) -> Run
     requires { (numbers ≤ length s.now) × (w < workers) }
     ensures { result ≡ run_now s.now w }
@@ -171,6 +155,7 @@ pub fn get_run(s: &[u32], w: usize) -> Run
     worker::run_at(s, WORKER_BASE + w * WORKER_WIDTH)
 }
 
+#[tactic(auto, unfolding(crate::specs::Layout::read_now))]
 pub fn get_reading(s: &[u32], w: usize) -> Reading
     requires { (numbers ≤ length s.now) × (w < workers) }
     ensures { result ≡ read_now s.now w }
@@ -178,104 +163,10 @@ pub fn get_reading(s: &[u32], w: usize) -> Reading
     worker::read_at(s, WORKER_BASE + w * WORKER_WIDTH)
 }
 
+#[tactic(auto, unfolding(crate::specs::Layout::seen_now))]
 pub fn get_seen(s: &[u32], w: usize) -> LockWord
     requires { (numbers ≤ length s.now) × (w < workers) }
     ensures { result ≡ seen_now s.now w }
 {
     worker::seen_at(s, WORKER_BASE + w * WORKER_WIDTH)
-}
-
-pub fn get_lock(s: &[u32], i: usize) -> LockWord
-    requires { (numbers ≤ length s.now) × (i < most_locks) }
-    ensures { result ≡ get_or (unpack s.now).lock i lock0 }
-{
-    let at = LOCK_BASE + i * LOCK_WIDTH;
-    codes::lock_of(s[at + 0], s[at + 1])
-}
-
-pub fn put_lock(s: &mut [u32], i: usize, x: LockWord)
-    requires { (numbers ≤ length s.old) × (i < most_locks) }
-    ensures { (s.new ≡ put_lock s.old i x) × (unpack s.new ≡ with_lock (unpack s.old) i x) }
-{
-    let h = x.holder;
-    let holder = codes::holder_number(h);
-    let n = [x.turn, holder];
-    codes::write(s, LOCK_BASE + i * LOCK_WIDTH, &n);
-}
-
-pub fn get_word(s: &[u32], i: usize) -> Word
-    requires { (numbers ≤ length s.now) × (i < most_words) }
-    ensures { result ≡ get_or (unpack s.now).word i word0 }
-{
-    let at = WORD_BASE + i * WORD_WIDTH;
-    let guard = codes::byte(s[at + 2]);
-    Word {
-        value: s[at + 0],
-        count: s[at + 1],
-        guard: guard,
-    }
-}
-
-pub fn put_word(s: &mut [u32], i: usize, x: Word)
-    requires { (numbers ≤ length s.old) × (i < most_words) }
-    ensures { (s.new ≡ put_word s.old i x) × (unpack s.new ≡ with_word (unpack s.old) i x) }
-{
-    let n = [x.value, x.count, x.guard as u32];
-    codes::write(s, WORD_BASE + i * WORD_WIDTH, &n);
-}
-
-pub fn get_sheet(s: &[u32], i: usize) -> Sheet
-    requires { (numbers ≤ length s.now) × (i < sheets) }
-    ensures { result ≡ get_or (unpack s.now).sheet i sheet0 }
-{
-    let at = SHEET_BASE + i * SHEET_WIDTH;
-    let length = codes::byte(s[at + 0]);
-    let done = codes::flag(s[at + 1]);
-    Sheet {
-        length: length,
-        done: done,
-    }
-}
-
-pub fn put_sheet(s: &mut [u32], i: usize, x: Sheet)
-    requires { (numbers ≤ length s.old) × (i < sheets) }
-    ensures { (s.new ≡ put_sheet s.old i x) × (unpack s.new ≡ with_sheet (unpack s.old) i x) }
-{
-    let done = codes::flag_number(x.done);
-    let n = [x.length as u32, done];
-    codes::write(s, SHEET_BASE + i * SHEET_WIDTH, &n);
-}
-
-pub fn get_instr(s: &[u32], i: usize) -> Instr
-    requires { (numbers ≤ length s.now) × (i < entries) }
-    ensures { result ≡ get_or (unpack s.now).program i instr0 }
-{
-    let at = INSTR_BASE + i * INSTR_WIDTH;
-    codes::instr_in(s[at + 0])
-}
-
-pub fn put_instr(s: &mut [u32], i: usize, x: Instr)
-    requires { (numbers ≤ length s.old) × (i < entries) }
-    ensures { (s.new ≡ put_instr s.old i x) × (unpack s.new ≡ with_instr (unpack s.old) i x) }
-{
-    let n = [codes::instr_number(x)];
-    codes::write(s, INSTR_BASE + i * INSTR_WIDTH, &n);
-}
-
-pub fn get_entry(s: &[u32], i: usize) -> Entry
-    requires { (numbers ≤ length s.now) × (i < entries) }
-    ensures { result ≡ get_or (unpack s.now).entry i entry0 }
-{
-    let at = ENTRY_BASE + i * ENTRY_WIDTH;
-    let fill = codes::fill_of(s[at + 0], s[at + 1], s[at + 2]);
-    Entry { fill: fill }
-}
-
-pub fn put_entry(s: &mut [u32], i: usize, x: Entry)
-    requires { (numbers ≤ length s.old) × (i < entries) }
-    ensures { (s.new ≡ put_entry s.old i x) × (unpack s.new ≡ with_entry (unpack s.old) i x) }
-{
-    let fill = x.fill;
-    let n = codes::fill_numbers(fill);
-    codes::write(s, ENTRY_BASE + i * ENTRY_WIDTH, &n);
 }

@@ -60,6 +60,7 @@ pub const RELEASE: u32 = 9;
 pub const FINISHED: u32 = 10;
 
 // Where register i stands; any above 3 is the last.
+#[tactic(auto, unfolding(crate::specs::Codes::at_register))]
 pub fn at_register(i: u8) -> usize
     ensures { (result ≡ at_register i) × (result < worker_used) }
 {
@@ -92,11 +93,11 @@ pub fn run_at(s: &[u32], at: usize) -> Run
     let place = codes::byte(s[at + PLACE]);
     let registers = registers_at(s, at);
     Run {
-        sheet: sheet,
+        sheet,
         won: s[at + WON],
-        next: next,
-        place: place,
-        registers: registers,
+        next,
+        place,
+        registers,
     }
 }
 
@@ -117,7 +118,8 @@ pub fn seen_at(s: &[u32], at: usize) -> LockWord
     codes::lock_of(s[at + VALUE], s[at + SHEET])
 }
 
-// By the tag; the arms are the tags above.
+// By the tag.
+#[tactic(auto, unfolding(crate::specs::Codes::state_in))]
 pub fn state_at(s: &[u32], at: usize) -> State
     requires { at + worker_used ≤ length s.now }
     ensures { result ≡ state_in (reads s.now at 0 worker_used) }
@@ -126,16 +128,16 @@ pub fn state_at(s: &[u32], at: usize) -> State
     let won = s[at + WON];
     let new = s[at + NEW];
     match tag {
-        0 => State::Idle,
-        1 => State::UnderWay(Point::Look),
-        2 => State::UnderWay(Point::Grab(won)),
-        3 => State::UnderWay(Point::LookAgain(won)),
-        4 => State::UnderWay(Point::ReadMark(seen_at(s, at), won)),
-        5 => State::UnderWay(Point::Run(run_at(s, at), Stage::Read)),
-        6 => State::UnderWay(Point::Run(run_at(s, at), Stage::Commit(read_at(s, at)))),
-        7 => State::UnderWay(Point::Run(run_at(s, at), Stage::Swap(read_at(s, at), new))),
-        8 => State::UnderWay(Point::Run(run_at(s, at), Stage::Mark(codes::flag(new)))),
-        9 => State::UnderWay(Point::Run(run_at(s, at), Stage::Release(codes::flag(new)))),
+        IDLE => State::Idle,
+        LOOK => State::UnderWay(Point::Look),
+        GRAB => State::UnderWay(Point::Grab(won)),
+        LOOK_AGAIN => State::UnderWay(Point::LookAgain(won)),
+        READ_MARK => State::UnderWay(Point::ReadMark(seen_at(s, at), won)),
+        READ => State::UnderWay(Point::Run(run_at(s, at), Stage::Read)),
+        COMMIT => State::UnderWay(Point::Run(run_at(s, at), Stage::Commit(read_at(s, at)))),
+        SWAP => State::UnderWay(Point::Run(run_at(s, at), Stage::Swap(read_at(s, at), new))),
+        MARK => State::UnderWay(Point::Run(run_at(s, at), Stage::Mark(codes::flag(new)))),
+        RELEASE => State::UnderWay(Point::Run(run_at(s, at), Stage::Release(codes::flag(new)))),
         _ => State::Finished(codes::answer_of(new)),
     }
 }
@@ -148,9 +150,9 @@ pub fn worker_at(s: &[u32], at: usize) -> Worker
     let lock = codes::byte(s[at + LOCK]);
     let own = codes::byte(s[at + OWN]);
     Worker {
-        state: state,
-        lock: lock,
-        own: own,
+        state,
+        lock,
+        own,
         steps: s[at + STEPS],
         filled: s[at + FILLED],
     }
@@ -169,13 +171,13 @@ pub fn run_numbers(
     let g = run.registers;
     [
         tag,
-        k.lock as u32,
-        k.own as u32,
+        u32::from(k.lock),
+        u32::from(k.own),
         k.steps,
-        run.sheet as u32,
+        u32::from(run.sheet),
         run.won,
-        run.next as u32,
-        run.place as u32,
+        u32::from(run.next),
+        u32::from(run.place),
         g.r0,
         g.r1,
         g.r2,
@@ -200,8 +202,8 @@ pub fn seen_numbers(
 {
     [
         tag,
-        k.lock as u32,
-        k.own as u32,
+        u32::from(k.lock),
+        u32::from(k.own),
         k.steps,
         sheet,
         won,
@@ -238,8 +240,7 @@ pub fn point_numbers(k: Worker, p: Point) -> [u32; WORKER_USED]
         Point::Grab(seen) => seen_numbers(k, GRAB, 0, seen, 0, 0),
         Point::LookAgain(won) => seen_numbers(k, LOOK_AGAIN, 0, won, 0, 0),
         Point::ReadMark(l, won) => {
-            let h = l.holder;
-            let holder = codes::holder_number(h);
+            let holder = codes::holder_number(l.holder);
             seen_numbers(k, READ_MARK, holder, won, l.turn, 0)
         }
         Point::Run(run, at) => stage_numbers(k, run, at),
@@ -249,8 +250,7 @@ pub fn point_numbers(k: Worker, p: Point) -> [u32; WORKER_USED]
 pub fn worker_numbers(k: Worker) -> [u32; WORKER_USED]
     ensures { (result ≡ worker_numbers k) × (worker_in (worker_numbers k) ≡ k) }
 {
-    let s = k.state;
-    match s {
+    match k.state {
         State::Idle => seen_numbers(k, IDLE, 0, 0, 0, 0),
         State::UnderWay(p) => point_numbers(k, p),
         State::Finished(a) => seen_numbers(k, FINISHED, 0, 0, 0, a.number()),

@@ -1,5 +1,6 @@
 // What C can call: the nine calls on numbers that the caller lends, the writer of a call's record, the plain engine, which is lent
 // the words, and the search and the writer of books of jobs. A reply's number 0 says accepted; any other is a refusal's, with its place. Fewer numbers than a state takes: 22, and nothing is changed.
+// Each call on a state tests its length first, by itself: C may lend any length, and a helper that takes the rest of a call as a closure is longer.
 #![tactic(auto)]
 
 ghost use Rattle.std.specs.Prelude.{◌≡◌, ◌≤◌, length};
@@ -84,8 +85,7 @@ pub fn chant_setup(state: &mut [u32], rec: &[u8]) -> Reply
     if state.len() < NUMBERS {
         return replies::short();
     }
-    let told = lent_in::setup(state, rec);
-    replies::reply(told)
+    Reply::from(lent_in::setup(state, rec))
 }
 
 // A worker takes a job for a lock. Refused: 22, 1, 3, 4, 2, 5, 6, 7, 8, 9, 10.
@@ -97,8 +97,7 @@ pub fn chant_begin(state: &mut [u32], worker: u32, lock: u32, rec: &[u8]) -> Rep
     if state.len() < NUMBERS {
         return replies::short();
     }
-    let told = lent_in::begin(state, worker, lock, rec);
-    replies::reply(told)
+    Reply::from(lent_in::begin(state, worker, lock, rec))
 }
 
 // One step of a worker's try. Refused: 22, 1, 11, 4.
@@ -110,8 +109,7 @@ pub fn chant_step(state: &mut [u32], worker: u32) -> Reply
     if state.len() < NUMBERS {
         return replies::short();
     }
-    let told = lent_step::step(state, worker);
-    replies::reply(told)
+    Reply::from(lent_step::step(state, worker))
 }
 
 // The answer of a finished worker, its steps and the entries that it was first to fill; the worker is idle. Refused: 22, 1, 11, 3.
@@ -121,10 +119,9 @@ pub fn chant_collect(state: &mut [u32], worker: u32) -> Collected
     ensures unpacked { numbers ≤ length state.old → unpack state.new ≡ (collect_of (unpack state.old) worker).engine }
 {
     if state.len() < NUMBERS {
-        return replies::no_answer(replies::short());
+        return Collected::from(replies::short());
     }
-    let told = lent::collect(state, worker);
-    replies::collected(told)
+    Collected::from(lent::collect(state, worker))
 }
 
 // The worker is idle; a held lock stays held. Refused: 22, 1, 11.
@@ -136,8 +133,7 @@ pub fn chant_drop(state: &mut [u32], worker: u32) -> Reply
     if state.len() < NUMBERS {
         return replies::short();
     }
-    let told = lent::drop(state, worker);
-    replies::reply(told)
+    Reply::from(lent::drop(state, worker))
 }
 
 // A word's value, count and guard. Refused: 22, 16.
@@ -145,10 +141,9 @@ pub fn chant_read_word(state: &[u32], word: u32) -> WordRead
     ensures { result ≡ word_reply state.now word }
 {
     if state.len() < NUMBERS {
-        return replies::no_word(replies::short());
+        return WordRead::from(replies::short());
     }
-    let told = lent::read_word(state, word);
-    replies::word_read(told)
+    WordRead::from(lent::read_word(state, word))
 }
 
 // A lock's turn and the sheet that holds it, if any. Refused: 22, 2.
@@ -156,10 +151,9 @@ pub fn chant_read_lock(state: &[u32], lock: u32) -> LockRead
     ensures { result ≡ lock_reply state.now lock }
 {
     if state.len() < NUMBERS {
-        return replies::no_lock(replies::short());
+        return LockRead::from(replies::short());
     }
-    let told = lent::read_lock(state, lock);
-    replies::lock_read(told)
+    LockRead::from(lent::read_lock(state, lock))
 }
 
 // The job record of a sheet in use. Refused: 22, 14, 13.
@@ -168,10 +162,9 @@ pub fn chant_show(state: &[u32], sheet: u32, buffer: &mut [u8]) -> Wrote
     ensures buffer_after { buffer.new ≡ show_buffer state.now sheet buffer.old }
 {
     if state.len() < NUMBERS {
-        return replies::no_bytes(replies::short());
+        return Wrote::from(replies::short());
     }
-    let told = lent_out::show(state, sheet, buffer);
-    replies::wrote(told)
+    Wrote::from(lent_out::show(state, sheet, buffer))
 }
 
 // The setup record of the present values and turns. Refused: 22, 12, 15, 13.
@@ -180,10 +173,9 @@ pub fn chant_park(state: &[u32], buffer: &mut [u8]) -> Wrote
     ensures buffer_after { buffer.new ≡ park_buffer state.now buffer.old }
 {
     if state.len() < NUMBERS {
-        return replies::no_bytes(replies::short());
+        return Wrote::from(replies::short());
     }
-    let told = lent_out::park(state, buffer);
-    replies::wrote(told)
+    Wrote::from(lent_out::park(state, buffer))
 }
 
 // The record of a call; step, collect and drop have no lock and no job record. Refused: 17, 5, 6, 13.
@@ -191,8 +183,7 @@ pub fn chant_record(call: u32, worker: u32, lock: u32, rec: &[u8], buffer: &mut 
     ensures value { result ≡ record_reply call worker lock rec.now buffer.old }
     ensures buffer_after { buffer.new ≡ record_buffer call worker lock rec.now buffer.old }
 {
-    let told = calls::write::record(call, worker, lock, rec, buffer);
-    replies::wrote(told)
+    Wrote::from(calls::write::record(call, worker, lock, rec, buffer))
 }
 
 // A job record run at once on the words' values, with their guards, under any lock number. Refused: 16, 5, 6, 7, 8.
@@ -201,16 +192,14 @@ pub fn chant_plain(values: &mut [u32], guards: &[u8], lock: u32, rec: &[u8]) -> 
     ensures values_after { values.new ≡ plain_values values.old guards.now lock rec.now }
     ensures guards_stay { guards.exit.now ≡ guards.entry.now }
 {
-    let told = plain::run(values, guards, lock, rec);
-    replies::ran(told)
+    Plain::from(plain::run(values, guards, lock, rec))
 }
 
 // Where the job record of a number stands in the line book, or else in the factory book. Refused: 18, 19.
 pub fn chant_book_find(line: &[u8], factory: &[u8], number: u32) -> BookFound
     ensures { result ≡ book_find_reply line.now factory.now number }
 {
-    let found = book::find(line, factory, number);
-    replies::found(found)
+    BookFound::from(book::find(line, factory, number))
 }
 
 // A book with one job more, in its place. Refused: 18, 19, 5, 6, 5, 7, 20, 13.
@@ -218,6 +207,5 @@ pub fn chant_book_add(book: &[u8], number: u32, rec: &[u8], buffer: &mut [u8]) -
     ensures value { result ≡ book_add_reply book.now number rec.now buffer.old }
     ensures buffer_after { buffer.new ≡ book_add_buffer book.now number rec.now buffer.old }
 {
-    let added = book::add(book, number, rec, buffer);
-    replies::added(added)
+    Wrote::from(book::add(book, number, rec, buffer))
 }

@@ -1,15 +1,16 @@
-// What a call told, as the numbers of a reply: each function is the definition of specs/Door.antt that has its name.
-ghost use Rattle.std.specs.Prelude.{◌≡◌};
+// What a call told, as the numbers of a reply: each conversion is the definition of specs/Door.antt that it names.
+ghost use Rattle.std.specs.Prelude.{◌≡◌, ◌%◌, ◌^◌};
 ghost use Rattle.parts.specs.Pick.{pick};
 ghost use Rattle.parts.specs.Told.{answer_number};
 ghost use Rattle.parts.specs.declared.Answer.TheVariants.{RanYes, RanNo};
-ghost use Rattle.door.specs.Door.{short_reply, refusal_reply, told_fields, no_answer, collected_fields, no_word, word_fields, no_lock, lock_word_fields, lock_fields, no_bytes, wrote_fields, no_run, plain_fields, found_fields, added_fields};
+ghost use Rattle.book.specs.Book.{some_number};
+ghost use Rattle.door.specs.Door.{short_reply, refusal_reply, told_fields, no_answer, collected_fields, no_word, word_fields, no_lock, lock_word_fields, lock_fields, no_bytes, wrote_fields, no_run, plain_fields, found_fields};
 
 use crate::{BookFound, Collected, LockRead, Plain, Reply, WordRead, Wrote};
-use book::{Added, Found};
-use engine::{CollectTold, LockTold, WordTold, WriteTold};
-use parts::{Answer, Holder, LockWord, Refusal, Told};
-use plain::PlainTold;
+use alone::Ran;
+use book::{Book, Found, NotFound};
+use engine::Answered;
+use parts::{Answer, LockWord, Refusal, Word};
 
 // Fewer numbers than a state takes.
 pub fn short() -> Reply
@@ -21,157 +22,187 @@ pub fn short() -> Reply
     }
 }
 
-fn refusal_reply(r: Refusal) -> Reply
-    ensures { result ≡ refusal_reply r }
+// A place or a length in 32 bits.
+fn low(n: usize) -> u32
+    ensures { result ≡ n % 2 ^ 32 }
 {
-    let number = r.number();
-    let place = r.place();
-    Reply {
-        number: number,
-        place: (place % 4294967296) as u32,
+    (n % 4294967296) as u32
+}
+
+impl From<Refusal> for Reply {
+    ghost from_gives = { λ r reply. reply ≡ refusal_reply r };
+
+    #[tactic(auto, unfolding(crate::specs::Door::refusal_reply))]
+    fn from(r: Refusal) -> Reply {
+        Reply {
+            number: r.number(),
+            place: low(r.place()),
+        }
     }
 }
 
-pub fn reply(told: Told) -> Reply
-    ensures { result ≡ told_fields told }
-{
-    match told {
-        Told::Accepted => Reply {
-            number: 0,
-            place: 0,
-        },
-        Told::Refused(r) => refusal_reply(r),
+impl From<Result<(), Refusal>> for Reply {
+    ghost from_gives = { λ told reply. reply ≡ told_fields told };
+
+    fn from(told: Result<(), Refusal>) -> Reply {
+        match told {
+            Ok(()) => Reply {
+                number: 0,
+                place: 0,
+            },
+            Err(r) => Reply::from(r),
+        }
     }
 }
 
-pub fn no_answer(r: Reply) -> Collected
-    ensures { result ≡ no_answer r }
-{
-    Collected {
-        number: r.number,
-        place: r.place,
-        answer: 0,
-        steps: 0,
-        filled: 0,
+// Each reply that has more to tell has 0 there where the call was refused.
+impl From<Reply> for Collected {
+    ghost from_gives = { λ r reply. reply ≡ no_answer r };
+
+    fn from(r: Reply) -> Collected {
+        Collected {
+            number: r.number,
+            place: r.place,
+            answer: 0,
+            steps: 0,
+            filled: 0,
+        }
     }
 }
 
-pub fn collected(told: CollectTold) -> Collected
-    ensures { result ≡ collected_fields told }
-{
-    match told {
-        CollectTold::Answered(answer, steps, filled) => Collected {
-            number: 0,
-            place: 0,
-            answer: answer.number(),
-            steps: steps,
-            filled: filled,
-        },
-        CollectTold::Refused(r) => no_answer(refusal_reply(r)),
+impl From<Result<Answered, Refusal>> for Collected {
+    ghost from_gives = { λ told reply. reply ≡ collected_fields told };
+
+    fn from(told: Result<Answered, Refusal>) -> Collected {
+        match told {
+            Ok(x) => Collected {
+                number: 0,
+                place: 0,
+                answer: x.answer.number(),
+                steps: x.steps,
+                filled: x.filled,
+            },
+            Err(r) => Collected::from(Reply::from(r)),
+        }
     }
 }
 
-pub fn no_word(r: Reply) -> WordRead
-    ensures { result ≡ no_word r }
-{
-    WordRead {
-        number: r.number,
-        place: r.place,
-        value: 0,
-        count: 0,
-        guard: 0,
+impl From<Reply> for WordRead {
+    ghost from_gives = { λ r reply. reply ≡ no_word r };
+
+    fn from(r: Reply) -> WordRead {
+        WordRead {
+            number: r.number,
+            place: r.place,
+            value: 0,
+            count: 0,
+            guard: 0,
+        }
     }
 }
 
-pub fn word_read(told: WordTold) -> WordRead
-    ensures { result ≡ word_fields told }
-{
-    match told {
-        WordTold::Is(w) => WordRead {
-            number: 0,
-            place: 0,
-            value: w.value,
-            count: w.count,
-            guard: w.guard as u32,
-        },
-        WordTold::Refused(r) => no_word(refusal_reply(r)),
+impl From<Result<Word, Refusal>> for WordRead {
+    ghost from_gives = { λ told reply. reply ≡ word_fields told };
+
+    fn from(told: Result<Word, Refusal>) -> WordRead {
+        match told {
+            Ok(w) => WordRead {
+                number: 0,
+                place: 0,
+                value: w.value,
+                count: w.count,
+                guard: u32::from(w.guard),
+            },
+            Err(r) => WordRead::from(Reply::from(r)),
+        }
     }
 }
 
-pub fn no_lock(r: Reply) -> LockRead
-    ensures { result ≡ no_lock r }
-{
-    LockRead {
-        number: r.number,
-        place: r.place,
-        turn: 0,
-        held: 0,
-        sheet: 0,
-    }
-}
+impl From<Reply> for LockRead {
+    ghost from_gives = { λ r reply. reply ≡ no_lock r };
 
-fn lock_fields(l: LockWord) -> LockRead
-    ensures { result ≡ lock_word_fields l }
-{
-    let holder = l.holder;
-    match holder {
-        Holder::Free => LockRead {
-            number: 0,
-            place: 0,
-            turn: l.turn,
+    fn from(r: Reply) -> LockRead {
+        LockRead {
+            number: r.number,
+            place: r.place,
+            turn: 0,
             held: 0,
             sheet: 0,
-        },
-        Holder::By(s) => LockRead {
-            number: 0,
-            place: 0,
-            turn: l.turn,
-            held: 1,
-            sheet: s as u32,
-        },
+        }
     }
 }
 
-pub fn lock_read(told: LockTold) -> LockRead
-    ensures { result ≡ lock_fields told }
-{
-    match told {
-        LockTold::Is(l) => lock_fields(l),
-        LockTold::Refused(r) => no_lock(refusal_reply(r)),
+impl From<LockWord> for LockRead {
+    ghost from_gives = { λ l reply. reply ≡ lock_word_fields l };
+
+    fn from(l: LockWord) -> LockRead {
+        match l.holder {
+            None => LockRead {
+                number: 0,
+                place: 0,
+                turn: l.turn,
+                held: 0,
+                sheet: 0,
+            },
+            Some(s) => LockRead {
+                number: 0,
+                place: 0,
+                turn: l.turn,
+                held: 1,
+                sheet: u32::from(s),
+            },
+        }
     }
 }
 
-pub fn no_bytes(r: Reply) -> Wrote
-    ensures { result ≡ no_bytes r }
-{
-    Wrote {
-        number: r.number,
-        place: r.place,
-        length: 0,
+impl From<Result<LockWord, Refusal>> for LockRead {
+    ghost from_gives = { λ told reply. reply ≡ lock_fields told };
+
+    fn from(told: Result<LockWord, Refusal>) -> LockRead {
+        match told {
+            Ok(l) => LockRead::from(l),
+            Err(r) => LockRead::from(Reply::from(r)),
+        }
     }
 }
 
-pub fn wrote(told: WriteTold) -> Wrote
-    ensures { result ≡ wrote_fields told }
-{
-    match told {
-        WriteTold::Wrote(n) => Wrote {
-            number: 0,
-            place: 0,
-            length: (n % 4294967296) as u32,
-        },
-        WriteTold::Refused(r) => no_bytes(refusal_reply(r)),
+impl From<Reply> for Wrote {
+    ghost from_gives = { λ r reply. reply ≡ no_bytes r };
+
+    fn from(r: Reply) -> Wrote {
+        Wrote {
+            number: r.number,
+            place: r.place,
+            length: 0,
+        }
     }
 }
 
-fn no_run(r: Reply) -> Plain
-    ensures { result ≡ no_run r }
-{
-    Plain {
-        number: r.number,
-        place: r.place,
-        answer: 0,
-        executed: 0,
+impl From<Result<usize, Refusal>> for Wrote {
+    ghost from_gives = { λ told reply. reply ≡ wrote_fields told };
+
+    fn from(told: Result<usize, Refusal>) -> Wrote {
+        match told {
+            Ok(n) => Wrote {
+                number: 0,
+                place: 0,
+                length: low(n),
+            },
+            Err(r) => Wrote::from(Reply::from(r)),
+        }
+    }
+}
+
+impl From<Reply> for Plain {
+    ghost from_gives = { λ r reply. reply ≡ no_run r };
+
+    fn from(r: Reply) -> Plain {
+        Plain {
+            number: r.number,
+            place: r.place,
+            answer: 0,
+            executed: 0,
+        }
     }
 }
 
@@ -185,42 +216,54 @@ fn ran_number(yes: bool) -> u32
     Answer::RanNo.number()
 }
 
-pub fn ran(told: PlainTold) -> Plain
-    ensures { result ≡ plain_fields told }
-{
-    match told {
-        PlainTold::Ran(yes, n) => Plain {
-            number: 0,
-            place: 0,
-            answer: ran_number(yes),
-            executed: (n % 4294967296) as u32,
-        },
-        PlainTold::Refused(r) => no_run(refusal_reply(r)),
+impl From<Result<Ran, Refusal>> for Plain {
+    ghost from_gives = { λ told reply. reply ≡ plain_fields told };
+
+    fn from(told: Result<Ran, Refusal>) -> Plain {
+        match told {
+            Ok(x) => Plain {
+                number: 0,
+                place: 0,
+                answer: ran_number(x.yes),
+                executed: low(x.executed),
+            },
+            Err(r) => Plain::from(Reply::from(r)),
+        }
     }
 }
 
-pub fn found(f: Found) -> BookFound
-    ensures { result ≡ found_fields f }
+// The number of a book, 0 of none.
+fn book_number(book: Option<Book>) -> u32
+    ensures { result ≡ some_number book }
 {
-    let told = f.told;
-    let r = reply(told);
-    BookFound {
-        number: r.number,
-        place: r.place,
-        book: f.book,
-        offset: (f.from % 4294967296) as u32,
-        length: (f.length % 4294967296) as u32,
+    match book {
+        Some(book) => book.number(),
+        None => 0,
     }
 }
 
-pub fn added(a: Added) -> Wrote
-    ensures { result ≡ added_fields a }
-{
-    let told = a.told;
-    let r = reply(told);
-    Wrote {
-        number: r.number,
-        place: r.place,
-        length: (a.length % 4294967296) as u32,
+impl From<Result<Found, NotFound>> for BookFound {
+    ghost from_gives = { λ search reply. reply ≡ found_fields search };
+
+    fn from(search: Result<Found, NotFound>) -> BookFound {
+        match search {
+            Ok(f) => BookFound {
+                number: 0,
+                place: 0,
+                book: f.book.number(),
+                offset: low(f.from),
+                length: low(f.length),
+            },
+            Err(n) => {
+                let r = Reply::from(n.refusal);
+                BookFound {
+                    number: r.number,
+                    place: r.place,
+                    book: book_number(n.book),
+                    offset: 0,
+                    length: 0,
+                }
+            }
+        }
     }
 }

@@ -2,3 +2,4 @@ pub mod Laws
 pub mod Begins
 pub mod Record
 pub mod Written
+pub mod Turns

@@ -1,13 +1,10 @@
 -- What setup reads: the parts of the record that the code takes are its fields.
 use Prim.Native.Nat.{ℕ, ◌+◌, ◌*◌, ◌-◌}
-use mathlib.Core.Path.{◌≡◌, ◌∙◌, ap}
+use mathlib.Core.Path.{◌≡◌}
 use mathlib.Core.List.{List, map}
 use native.Mathlib.Omega.{arith}
 use lib.ListN.{length, take, drop}
 use Rattle.arrays.specs.Fresh.{words_from, free_at}
-use Rattle.parts.specs.declared.LockWord.{LockWord}
-use Rattle.parts.specs.declared.Word.{Word}
-use Rattle.parts.specs.Lay.{lay}
 use Rattle.records.specs.Bytes.{u32s_of}
 use Rattle.records.specs.Setup.{words_field, guards_field, values_field, turns_field}
 use Rattle.records.proofs.Laws.{part_end}
@@ -30,18 +27,3 @@ pub locks_part :
     n ≡ words_field rec →
     map free_at (u32s_of (take (length rec - (6 + 5 * n)) (drop (6 + 5 * n) rec))) ≡ map free_at (turns_field rec)
 locks_part rec n e = simp (e, part_end (6 + 5 * words_field rec) rec)
-
--- the same, laid over l
-pub words_read :
-    (rec : List ℕ) (n : ℕ) (r l : List Word) →
-    n ≡ words_field rec →
-    r ≡ lay 0 (words_from (take (6 + n - 6) (drop 6 rec)) (u32s_of (take (6 + 5 * n - (6 + n)) (drop (6 + n) rec)))) l →
-    r ≡ lay 0 (words_from (guards_field rec) (values_field rec)) l
-words_read rec n r l e f = f ∙ ap (λ (xs : List Word). lay 0 xs l) (words_part rec n e)
-
-pub locks_read :
-    (rec : List ℕ) (n : ℕ) (r l : List LockWord) →
-    n ≡ words_field rec →
-    r ≡ lay 0 (map free_at (u32s_of (take (length rec - (6 + 5 * n)) (drop (6 + 5 * n) rec)))) l →
-    r ≡ lay 0 (map free_at (turns_field rec)) l
-locks_read rec n r l e f = f ∙ ap (λ (xs : List LockWord). lay 0 xs l) (locks_part rec n e)

@@ -1,4 +1,5 @@
 -- What show and park write: a record is laid part by part. And what is known of the buffer where they were accepted.
+use Rattle.std.specs.Prelude.{Ok}
 use Prim.Native.Nat.{ℕ, ◌+◌, ◌*◌, ◌≤◌, ◌<◌}
 use mathlib.Core.Path.{◌≡◌, ◌∙◌, sym, ap}
 use mathlib.Core.Bool.{true, false}
@@ -16,8 +17,7 @@ use Rattle.parts.specs.Pick.{pick}
 use Rattle.parts.specs.declared.Instr.{Instr}
 use Rattle.parts.specs.declared.LockWord.{LockWord}
 use Rattle.parts.specs.declared.Refusal.TheVariants.{SheetFree, Buffer}
-use Rattle.parts.specs.declared.Told.{Told}
-use Rattle.parts.specs.declared.Told.TheVariants.{Accepted}
+use Rattle.parts.specs.Told.{Told}
 use Rattle.parts.specs.declared.Word.{Word}
 use Rattle.parts.proofs.Lay.{lay-append}
 use Rattle.parts.proofs.Order.{first_all, row_passes, neither}
@@ -130,7 +130,7 @@ module _
 pub show_room :
     (e : Engine) (s room : ℕ) (t : Told) →
     t ≡ show_told e s room →
-    t ≡ Accepted →
+    t ≡ Ok tt →
     (s < sheets) × (4 + 4 * program_length e s ≤ room)
 unfolding show_told
 show_room e s room t q h =
@@ -142,7 +142,7 @@ show_room e s room t q h =
 pub park_room :
     (e : Engine) (room : ℕ) (t : Told) →
     t ≡ park_told e room →
-    t ≡ Accepted →
+    t ≡ Ok tt →
     setup_length (lock_count e) (word_count e) ≤ room
 unfolding park_told
 park_room e room t q h = ltb-false room _ (row_passes _ Buffer (first_all (park_order e.lock (lock_count e) (word_count e) room) (sym q ∙ h) 2))

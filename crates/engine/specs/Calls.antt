@@ -13,7 +13,7 @@ use Rattle.engine.specs.Step.{stepped_of}
 -- was accepted
 abbrev pub outcome_of : Engine → Told → Engine → Outcome
 outcome_of e told next =
-    on_told told (record { engine = next; told = Accepted }) (λ r. record { engine = e; told = Refused r })
+    on_told told (record { engine = next; told = Ok tt }) (λ r. record { engine = e; told = Err r })
 
 -- "Setup makes a fresh state; a refused one gives the blank state"
 unfoldable pub fresh_of : List ℕ → Engine
@@ -89,6 +89,14 @@ collect_order e w = refuse_if (leb workers w) NoWorker ∷ collect_by_state (wor
 abbrev pub collect_told : Engine → ℕ → Told
 collect_told e w = first_of (collect_order e w)
 
+-- what collect gives: the next state, and what it tells, which is an answer, the steps and the entries filled
+pub record Collected : Type 0 where
+  pub engine : Engine
+  pub told : Result Answered Refusal
+
+abbrev pub answered : Answer → ℕ → ℕ → Answered
+answered x steps filled = record { answer = x; steps = steps; filled = filled }
+
 -- of a finished worker
 abbrev pub last_answer : Worker → Answer
 last_answer k = on_state k.state NotTaken (λ p. NotTaken) (λ answer. answer)
@@ -98,9 +106,9 @@ collect_of e w =
     on_told (collect_told e w)
     (record {
       engine = with_worker e w (collected_of (worker_at e w));
-      told = CollectTold.Answered (last_answer (worker_at e w)) (worker_at e w).steps (worker_at e w).filled;
+      told = Ok (answered (last_answer (worker_at e w)) (worker_at e w).steps (worker_at e w).filled);
     })
-    (λ r. record { engine = e; told = CollectTold.Refused r })
+    (λ r. record { engine = e; told = Err r })
 
 -- "Drop: 1, 11." "Drop (worker) makes a worker that isn't idle idle at any point; a held lock stays held."
 abbrev pub drop_order : Engine → ℕ → List Told
@@ -113,17 +121,17 @@ unfoldable pub drop_of : Engine → ℕ → Outcome
 drop_of e w = outcome_of e (drop_told e w) (with_worker e w (dropped_of (worker_at e w)))
 
 -- "Read word tells value, count and guard"; 16: "word not below W"
-unfoldable pub read_word_of : Engine → ℕ → WordTold
-read_word_of e i = on_told (refuse_if (leb (word_count e) i) NoWord) (WordTold.Is (word_at e i)) (λ r. WordTold.Refused r)
+unfoldable pub read_word_of : Engine → ℕ → Result Word Refusal
+read_word_of e i = on_told (refuse_if (leb (word_count e) i) NoWord) (Ok (word_at e i)) (λ r. Err r)
 
 -- "read lock tells the turn and the holding sheet, if any"; 2: "lock not below L"
-unfoldable pub read_lock_of : Engine → ℕ → LockTold
-read_lock_of e l = on_told (refuse_if (leb (lock_count e) l) NoLock) (LockTold.Is (lock_at e l)) (λ r. LockTold.Refused r)
+unfoldable pub read_lock_of : Engine → ℕ → Result LockWord Refusal
+read_lock_of e l = on_told (refuse_if (leb (lock_count e) l) NoLock) (Ok (lock_at e l)) (λ r. Err r)
 
 -- "Both writers fill the first bytes only and tell how many; the bytes after them don't change." A refusal alters "not one byte
 -- of the buffer"
-abbrev pub write_of : Told → List ℕ → WriteTold
-write_of told bytes = on_told told (WriteTold.Wrote (length bytes)) (λ r. WriteTold.Refused r)
+abbrev pub write_of : Told → List ℕ → Result ℕ Refusal
+write_of told bytes = on_told told (Ok (length bytes)) (λ r. Err r)
 
 abbrev pub buffer_of : Told → List ℕ → List ℕ → List ℕ
 buffer_of told bytes buf = on_told told (lay 0 bytes buf) (λ r. buf)
@@ -139,7 +147,7 @@ show_order e s room =
 unfoldable pub show_told : Engine → ℕ → ℕ → Told
 show_told e s room = first_of (show_order e s room)
 
-unfoldable pub show_of : Engine → ℕ → ℕ → WriteTold
+unfoldable pub show_of : Engine → ℕ → ℕ → Result ℕ Refusal
 show_of e s room = write_of (show_told e s room) (sheet_record e s)
 
 unfoldable pub shown_of : Engine → ℕ → List ℕ → List ℕ
@@ -157,7 +165,7 @@ park_order locks l w room =
 unfoldable pub park_told : Engine → ℕ → Told
 park_told e room = first_of (park_order e.lock (lock_count e) (word_count e) room)
 
-unfoldable pub park_of : Engine → ℕ → WriteTold
+unfoldable pub park_of : Engine → ℕ → Result ℕ Refusal
 park_of e room = write_of (park_told e room) (state_record e)
 
 unfoldable pub parked_of : Engine → List ℕ → List ℕ

@@ -1,9 +1,8 @@
 -- What only contracts of inner functions and proofs ask for: nothing here has to be believed.
-use Rattle.std.specs.Prelude.{ℕ, ◌<◌, ◌≡◌, false, List}
+use Rattle.std.specs.Prelude.{ℕ, ◌<◌, ◌≡◌, false, length, List, Ok}
 use Rattle.arrays.specs.Fresh.{guards_of}
 use Rattle.parts.specs.Numbers.{workers, most_locks, most_words, sheets, entries}
 use Rattle.parts.specs.Parts.{worn_of}
-use Rattle.parts.specs.declared.Told.TheVariants.{Accepted}
 use Rattle.records.specs.Job.{job_told}
 use Rattle.steps.specs.Worker.{begin_by_state}
 use Rattle.engine.specs.State.{lock_count, words_of, worker_at, lock_at}
@@ -22,7 +21,13 @@ pub record Within (at : Places) : Type 0 where
 -- what a begin finds that is accepted
 pub record Begins (e : Engine) (w l : ℕ) (rec : List ℕ) : Type 0 where
   pub worker : w < workers
-  pub idle : begin_by_state (worker_at e w) ≡ Accepted
+  pub idle : begin_by_state (worker_at e w) ≡ Ok tt
   pub lock : l < lock_count e
-  pub job : job_told rec l (guards_of (words_of e)) ≡ Accepted
+  pub job : job_told rec l (guards_of (words_of e)) ≡ Ok tt
   pub worn : worn_of (lock_at e l) ≡ false
+
+-- the arrays that a reader walks are as long as in the code
+pub record Walked (e : Engine) : Type 0 where
+  pub word : length e.word ≡ most_words
+  pub lock : length e.lock ≡ most_locks
+  pub program : length e.program ≡ entries

@@ -7,15 +7,17 @@ ghost use Rattle.parts.specs.Numbers.{instructions, try_steps, help_steps};
 ghost use Rattle.parts.specs.Pick.{pick};
 ghost use Rattle.engine.specs.State.{blank_of};
 
-mod begin;
-pub mod fresh;
+pub mod begin;
+mod fresh;
+mod loops;
 pub mod read;
+pub mod reads;
 pub mod step;
 pub mod write;
 
 use parts::{
-    Answer, ENTRIES, Entry, Fill, Holder, INSTRUCTIONS, Instr, LAST_TURN, LOCKS, LockWord,
-    REGISTERS, Refusal, SHEETS, Told, WORDS, WORKERS, Word,
+    Answer, ENTRIES, Entry, INSTRUCTIONS, Instr, LAST_TURN, LOCKS, LockWord, REGISTERS, Refusal,
+    SHEETS, WORDS, WORKERS, Word,
 };
 use steps::{State, Worker};
 
@@ -49,43 +51,19 @@ pub struct Places {
     pub sheet: usize,
 }
 
-// What setup, begin, step and drop give: the next state, and whether the call was accepted.
+// What setup gives: a state, which is the blank one where the record was refused.
 #[derive(Clone, Copy)]
 pub struct Outcome {
     pub engine: Engine,
-    pub told: Told,
+    pub told: Result<(), Refusal>,
 }
 
+// What collect hands out: the answer, the accepted steps since begin, and the log entries that the worker was first to fill.
 #[derive(Clone, Copy)]
-pub enum CollectTold {
-    // The answer, the accepted steps since begin, and the log entries that the worker was first to fill.
-    Answered(Answer, u32, u32),
-    Refused(Refusal),
-}
-
-#[derive(Clone, Copy)]
-pub struct Collected {
-    pub engine: Engine,
-    pub told: CollectTold,
-}
-
-#[derive(Clone, Copy)]
-pub enum WordTold {
-    Is(Word),
-    Refused(Refusal),
-}
-
-#[derive(Clone, Copy)]
-pub enum LockTold {
-    Is(LockWord),
-    Refused(Refusal),
-}
-
-// What the writers tell: how many bytes they wrote.
-#[derive(Clone, Copy)]
-pub enum WriteTold {
-    Wrote(usize),
-    Refused(Refusal),
+pub struct Answered {
+    pub answer: Answer,
+    pub steps: u32,
+    pub filled: u32,
 }
 
 impl Engine {
@@ -117,12 +95,14 @@ impl Engine {
         ensures { result ≡ pick helping (help_steps instructions) (try_steps instructions) }
     {
         if helping {
-            return Self::HELP_STEPS;
+            Self::HELP_STEPS
+        } else {
+            Self::TRY_STEPS
         }
-        Self::TRY_STEPS
     }
 
     // No locks, no words, idle workers, free sheets.
+    #[tactic(auto, unfolding(crate::specs::State::blank_of))]
     pub fn blank() -> Engine
         ensures { result ≡ blank_of }
     {
@@ -136,7 +116,7 @@ impl Engine {
             }; WORDS],
             lock: [LockWord {
                 turn: 0,
-                holder: Holder::Free,
+                holder: None,
             }; LOCKS],
             sheet: [Sheet {
                 length: 0,
@@ -148,7 +128,7 @@ impl Engine {
                 b: 0,
                 c: 0,
             }; ENTRIES],
-            entry: [Entry { fill: Fill::Empty }; ENTRIES],
+            entry: [Entry { fill: None }; ENTRIES],
             worker: [Worker {
                 state: State::Idle,
                 lock: 0,

@@ -2,38 +2,75 @@
 ghost use Rattle.std.specs.Prelude.{◌≡◌, ◌<◌, ◌≤◌, ◌+◌, ◌*◌, ◌%◌, [], ◌∷◌, length, take, drop};
 ghost use Rattle.parts.specs.Lay.{lay};
 ghost use Rattle.parts.specs.Numbers.{sheets, instructions, entries, most_locks, most_words};
-ghost use Rattle.parts.specs.Told.{first_of};
 ghost use Rattle.records.specs.Bytes.{header};
 ghost use Rattle.records.specs.Job.{job_record};
 ghost use Rattle.records.specs.Setup.{setup_kind, setup_length};
 ghost use Rattle.engine.specs.State.{program_length, lock_count, word_count, sheet_record, record_of, state_record};
-ghost use Rattle.engine.specs.Calls.{show_told, show_of, shown_of, park_order, park_told, park_of, parked_of};
+ghost use Rattle.engine.specs.Calls.{show_told, show_of, shown_of, park_told, park_of, parked_of};
+ghost use Rattle.engine.specs.Inner.{Walked};
 ghost use Rattle.engine.specs.Written.{fields_of};
 
-use crate::read::{lock_count, word_count};
-use crate::{Engine, WriteTold};
-use parts::{ENTRIES, INSTRUCTIONS, Instr, LOCKS, LockWord, Refusal, SHEETS, Told, WORDS, Word};
+use crate::reads::Reads;
+use crate::{Engine, loops, reads};
+use parts::{INSTRUCTIONS, Refusal, SHEETS};
 
 // How many instructions a sheet has.
 pub fn instruction_count(n: u8) -> usize
     ensures { result ≡ n % (instructions + 1) }
 {
-    (n as usize) % (INSTRUCTIONS + 1)
+    usize::from(n) % (INSTRUCTIONS + 1)
+}
+
+// The order for show: 14, 13.
+#[tactic(auto, unfolding(crate::specs::Calls::show_told))]
+fn show_told<S: Reads>(s: &S, sheet: usize, room: usize) -> Result<(), Refusal>
+    ensures { result ≡ show_told (S.says s.now) sheet room }
+{
+    if SHEETS <= sheet || !reads::in_use(s, sheet) {
+        return Err(Refusal::SheetFree);
+    }
+    if room < 4 + 4 * s.program_length(sheet) {
+        return Err(Refusal::Buffer);
+    }
+    Ok(())
 }
 
 // The job record of the n instructions from `base` on.
-fn put_program(program: [Instr; ENTRIES], base: usize, n: usize, buf: &mut [u8]) -> usize
-    requires { (n ≤ instructions) × (base + n ≤ entries) × (4 + 4 * n ≤ length buf.old) }
-    ensures value { result ≡ length (job_record (take n (drop base program))) }
-    ensures buf_after { buf.new ≡ lay 0 (job_record (take n (drop base program))) buf.old }
+#[tactic(auto, using(crate::proofs::Written::program_size, crate::proofs::Written::program_laid))]
+fn put_program<S: Reads>(s: &S, base: usize, n: usize, buf: &mut [u8]) -> usize
+    requires { Walked (S.says s.now) × (n ≤ instructions) × (base + n ≤ entries) × (4 + 4 * n ≤ length buf.old) }
+    ensures value { result ≡ length (job_record (take n (drop base (S.says s.now).program))) }
+    ensures buf_after { buf.new ≡ lay 0 (job_record (take n (drop base (S.says s.now).program))) buf.old }
 {
     let size = 4 + 4 * n;
     records::put_header(buf, size, records::job::kind_for(n));
-    arrays::written::put_code(program, base, n, buf, 4);
+    loops::put_code(s, base, n, buf, 4);
     size
 }
 
+// The job record of a sheet.
+fn put_job<S: Reads>(s: &S, sheet: usize, buf: &mut [u8]) -> usize
+    requires { (sheet < sheets) × (4 + 4 * program_length (S.says s.now) sheet ≤ length buf.old) }
+    ensures value { result ≡ length (sheet_record (S.says s.now) sheet) }
+    ensures buf_after { buf.new ≡ lay 0 (sheet_record (S.says s.now) sheet) buf.old }
+{
+    let n = s.program_length(sheet);
+    put_program(s, sheet * INSTRUCTIONS, n, buf)
+}
+
+// The job record of a sheet in use. Refused: 14, 13.
+#[tactic(auto, using(crate::proofs::Written::show_room), unfolding(crate::specs::Calls::show_of, crate::specs::Calls::shown_of))]
+pub fn show<S: Reads>(s: &S, sheet: u32, buf: &mut [u8]) -> Result<usize, Refusal>
+    ensures value { result ≡ show_of (S.says s.now) sheet (length buf.old) }
+    ensures buf_after { buf.new ≡ shown_of (S.says s.now) sheet buf.old }
+{
+    let i = sheet as usize;
+    show_told(s, i, buf.len())?;
+    Ok(put_job(s, i, buf))
+}
+
 // The first six bytes of a setup record: its header, L and W.
+#[tactic(auto, using(crate::proofs::Written::sizes_laid))]
 pub fn put_sizes(l: usize, w: usize, buf: &mut [u8])
     requires { (l ≤ most_locks) × (w ≤ most_words) × (6 ≤ length buf.old) }
     ensures { buf.new ≡ lay 0 (header (setup_length l w) setup_kind (l ∷ w ∷ [])) buf.old }
@@ -44,139 +81,80 @@ pub fn put_sizes(l: usize, w: usize, buf: &mut [u8])
 }
 
 // What follows them: the guards and the values of the first w words, and the turns of the first l locks.
-fn put_fields(words: [Word; WORDS], w: usize, locks: [LockWord; LOCKS], l: usize, buf: &mut [u8])
-    requires { (l ≤ most_locks) × (w ≤ most_words) × (setup_length l w ≤ length buf.old) }
-    ensures { buf.new ≡ lay 6 (fields_of (take w words) (take l locks)) buf.old }
+#[tactic(auto, using(crate::proofs::Written::fields_laid))]
+fn put_fields<S: Reads>(s: &S, w: usize, l: usize, buf: &mut [u8])
+    requires { Walked (S.says s.now) × (l ≤ most_locks) × (w ≤ most_words) × (setup_length l w ≤ length buf.old) }
+    ensures { buf.new ≡ lay 6 (fields_of (take w (S.says s.now).word) (take l (S.says s.now).lock)) buf.old }
 {
-    arrays::written::put_guards(words, w, buf, 6);
-    arrays::written::put_values(words, w, buf, 6 + w);
-    arrays::written::put_turns(locks, l, buf, 6 + 5 * w);
+    loops::put_guards(s, w, buf, 6);
+    loops::put_values(s, w, buf, 6 + w);
+    loops::put_turns(s, l, buf, 6 + 5 * w);
 }
 
 // The setup record of the first w words and the first l locks.
-fn put_setup(
-    words: [Word; WORDS],
-    w: usize,
-    locks: [LockWord; LOCKS],
-    l: usize,
-    buf: &mut [u8],
-) -> usize
-    requires { (l ≤ most_locks) × (w ≤ most_words) × (setup_length l w ≤ length buf.old) }
-    ensures value { result ≡ length (record_of (take w words) (take l locks)) }
-    ensures buf_after { buf.new ≡ lay 0 (record_of (take w words) (take l locks)) buf.old }
+#[tactic(auto, using(crate::proofs::Written::setup_size, crate::proofs::Written::setup_laid))]
+fn put_setup<S: Reads>(s: &S, w: usize, l: usize, buf: &mut [u8]) -> usize
+    requires { Walked (S.says s.now) × (l ≤ most_locks) × (w ≤ most_words) × (setup_length l w ≤ length buf.old) }
+    ensures value { result ≡ length (record_of (take w (S.says s.now).word) (take l (S.says s.now).lock)) }
+    ensures buf_after { buf.new ≡ lay 0 (record_of (take w (S.says s.now).word) (take l (S.says s.now).lock)) buf.old }
 {
     put_sizes(l, w, buf);
-    put_fields(words, w, locks, l, buf);
+    put_fields(s, w, l, buf);
     6 + 5 * w + 4 * l
 }
 
-// The order for park, of the first l locks and with w words: 12, 15, 13.
-fn order_told(locks: [LockWord; LOCKS], l: usize, w: usize, room: usize) -> Told
-    requires { (l ≤ most_locks) × (w ≤ most_words) }
-    ensures { result ≡ first_of (park_order locks l w room) }
+// The order for park: 12, 15, 13.
+#[tactic(auto, unfolding(crate::specs::Calls::park_told))]
+fn park_told<S: Reads>(s: &S, room: usize) -> Result<(), Refusal>
+    ensures { result ≡ park_told (S.says s.now) room }
 {
+    let l = s.lock_count();
+    let w = s.word_count();
     if l == 0 {
-        return Told::Refused(Refusal::Range(4));
+        return Err(Refusal::Range(4));
     }
-    let told = arrays::written::held_told(locks, l);
-    match told {
-        Told::Refused(_) => told,
-        Told::Accepted => {
-            if room < 6 + 5 * w + 4 * l {
-                return Told::Refused(Refusal::Buffer);
-            }
-            Told::Accepted
-        }
+    loops::held_told(s, l)?;
+    if room < 6 + 5 * w + 4 * l {
+        return Err(Refusal::Buffer);
     }
+    Ok(())
+}
+
+// The setup record of the present values and turns.
+fn put_state<S: Reads>(s: &S, buf: &mut [u8]) -> usize
+    requires { setup_length (lock_count (S.says s.now)) (word_count (S.says s.now)) ≤ length buf.old }
+    ensures value { result ≡ length (state_record (S.says s.now)) }
+    ensures buf_after { buf.new ≡ lay 0 (state_record (S.says s.now)) buf.old }
+{
+    let l = s.lock_count();
+    let w = s.word_count();
+    put_setup(s, w, l, buf)
+}
+
+// The setup record of the present values and turns. Refused: 12 on the blank state, 15 with the lowest held lock, 13.
+#[tactic(auto, using(crate::proofs::Written::park_room), unfolding(crate::specs::Calls::park_of, crate::specs::Calls::parked_of))]
+pub fn park<S: Reads>(s: &S, buf: &mut [u8]) -> Result<usize, Refusal>
+    ensures value { result ≡ park_of (S.says s.now) (length buf.old) }
+    ensures buf_after { buf.new ≡ parked_of (S.says s.now) buf.old }
+{
+    park_told(s, buf.len())?;
+    Ok(put_state(s, buf))
 }
 
 impl Engine {
-    // How many instructions stand on sheet s.
-    fn program_length(self, s: usize) -> usize
-        requires { s < sheets }
-        ensures { result ≡ program_length self s }
-    {
-        let sheet = self.sheet[s];
-        let n = sheet.length;
-        instruction_count(n)
-    }
-
-    // The order for show: 14, 13.
-    fn show_told(self, s: usize, room: usize) -> Told
-        ensures { result ≡ show_told self s room }
-    {
-        if SHEETS <= s {
-            return Told::Refused(Refusal::SheetFree);
-        }
-        let locks = self.lock;
-        let workers = self.worker;
-        let used = sheets::in_use(locks, workers, s);
-        if used {
-            let n = self.program_length(s);
-            if room < 4 + 4 * n {
-                return Told::Refused(Refusal::Buffer);
-            }
-            return Told::Accepted;
-        }
-        Told::Refused(Refusal::SheetFree)
-    }
-
-    // The job record of sheet s.
-    fn put_job(self, s: usize, buf: &mut [u8]) -> usize
-        requires { (s < sheets) × (4 + 4 * program_length self s ≤ length buf.old) }
-        ensures value { result ≡ length (sheet_record self s) }
-        ensures buf_after { buf.new ≡ lay 0 (sheet_record self s) buf.old }
-    {
-        let n = self.program_length(s);
-        let program = self.program;
-        put_program(program, s * INSTRUCTIONS, n, buf)
-    }
-
     // The job record of a sheet in use. Refused: 14, 13.
-    pub fn show(self, sheet: u32, buf: &mut [u8]) -> WriteTold
-        ensures value { result ≡ show_of self sheet (length buf.old) }
-        ensures buf_after { buf.new ≡ shown_of self sheet buf.old }
+    pub fn show(&self, sheet: u32, buf: &mut [u8]) -> Result<usize, Refusal>
+        ensures value { result ≡ show_of self.now sheet (length buf.old) }
+        ensures buf_after { buf.new ≡ shown_of self.now sheet buf.old }
     {
-        let s = sheet as usize;
-        let told = self.show_told(s, buf.len());
-        match told {
-            Told::Refused(r) => WriteTold::Refused(r),
-            Told::Accepted => WriteTold::Wrote(self.put_job(s, buf)),
-        }
-    }
-
-    // The order for park: 12, 15, 13.
-    fn park_told(self, room: usize) -> Told
-        ensures { result ≡ park_told self room }
-    {
-        let locks = self.lock;
-        let l = lock_count(self.locks);
-        let w = word_count(self.words);
-        order_told(locks, l, w, room)
-    }
-
-    // The setup record of the present values and turns.
-    fn put_state(self, buf: &mut [u8]) -> usize
-        requires { setup_length (lock_count self) (word_count self) ≤ length buf.old }
-        ensures value { result ≡ length (state_record self) }
-        ensures buf_after { buf.new ≡ lay 0 (state_record self) buf.old }
-    {
-        let words = self.word;
-        let locks = self.lock;
-        let l = lock_count(self.locks);
-        let w = word_count(self.words);
-        put_setup(words, w, locks, l, buf)
+        show(self, sheet, buf)
     }
 
     // The setup record of the present values and turns. Refused: 12 on the blank state, 15 with the lowest held lock, 13.
-    pub fn park(self, buf: &mut [u8]) -> WriteTold
-        ensures value { result ≡ park_of self (length buf.old) }
-        ensures buf_after { buf.new ≡ parked_of self buf.old }
+    pub fn park(&self, buf: &mut [u8]) -> Result<usize, Refusal>
+        ensures value { result ≡ park_of self.now (length buf.old) }
+        ensures buf_after { buf.new ≡ parked_of self.now buf.old }
     {
-        let told = self.park_told(buf.len());
-        match told {
-            Told::Refused(r) => WriteTold::Refused(r),
-            Told::Accepted => WriteTold::Wrote(self.put_state(buf)),
-        }
+        park(self, buf)
     }
 }

@@ -24,9 +24,9 @@ accepted_line = Number 0
 abbrev pub told_line : Told → Line
 told_line told = on_told told accepted_line refused_line
 
-abbrev pub collect_line : CollectTold → Line
-collect_line (CollectTold.Answered answer steps filled) = Answer (answer_number answer) steps filled
-collect_line (CollectTold.Refused r) = refused_line r
+abbrev pub collect_line : Result Answered Refusal → Line
+collect_line (Ok x) = Answer (answer_number x.answer) x.steps x.filled
+collect_line (Err r) = refused_line r
 
 -- what is told of a call made on state e; those that read or write are in no file, and any line will do
 unfoldable pub call_line : Engine → Call → Line

@@ -5,9 +5,9 @@ ghost use Rattle.files.specs.File.{most_file, walk_from, told_of, most_line, lin
 ghost use Rattle.engine.specs.State.{blank_of};
 
 use crate::make::{Line, make, refused_line};
-use calls::reader::{Item, hand_out};
-use engine::Engine;
-use parts::{Refusal, Told};
+use calls::reader::reader_at;
+use engine::{Engine, Outcome};
+use parts::Refusal;
 
 // An accepted collect's 0 and its three numbers.
 fn put_answer(out: &mut [u8], at: usize, answer: u32, steps: u32, filled: u32) -> usize
@@ -15,16 +15,23 @@ fn put_answer(out: &mut [u8], at: usize, answer: u32, steps: u32, filled: u32) -
     ensures { Puts at 84 (number_text 0 ++ three_text answer steps filled) out.old out.new result }
 {
     let next = text::put_number(out, at, 0);
-    text::put_three(out, next, answer as u64, steps as u64, filled as u64)
+    text::put_three(
+        out,
+        next,
+        u64::from(answer),
+        u64::from(steps),
+        u64::from(filled),
+    )
 }
 
 // What a line says after its index.
+#[tactic(auto, using(text::proofs::Written::puts_case), unfolding(crate::specs::File::told_of))]
 fn put_told(out: &mut [u8], at: usize, line: Line) -> usize
     requires { at + 84 ≤ length out.old }
     ensures { Puts at 84 (told_of line) out.old out.new result }
 {
     match line {
-        Line::Number(number) => text::put_three(out, at, number as u64, 0, 0),
+        Line::Number(number) => text::put_three(out, at, u64::from(number), 0, 0),
         Line::Answer(answer, steps, filled) => put_answer(out, at, answer, steps, filled),
     }
 }
@@ -35,10 +42,10 @@ fn put_end(out: &mut [u8], at: usize, line: Line) -> usize
     ensures { Puts at 85 (told_of line ++ (newline ∷ [])) out.old out.new result }
 {
     let next = put_told(out, at, line);
-    text::put(out, next, 10)
+    text::put(out, next, b'\n')
 }
 
-fn put_line(out: &mut [u8], at: usize, index: u32, line: Line) -> usize
+fn put_line(out: &mut [u8], at: usize, index: usize, line: Line) -> usize
     requires { at + most_line ≤ length out.old }
     ensures { Puts at most_line (line_text index line) out.old out.new result }
 {
@@ -53,37 +60,24 @@ pub struct Replayed {
     pub length: usize,
 }
 
-// The call records from byte `from` on, on a state.
-fn walk(file: &[u8], from: usize, start: Engine, out: &mut [u8]) -> Replayed
+// The call records from byte `from` on, on a state: how many bytes of text were put.
+#[tactic(auto, using(crate::proofs::Walks::line_room))]
+fn walk(file: &[u8], from: usize, engine: &mut Engine, out: &mut [u8]) -> usize
     requires { (from ≤ length file.now) × (length file.now ≤ most_file) × (most_text ≤ length out.old) }
-    ensures puts { Puts 0 most_text (lines_text 0 (walk_from 0 start (drop from file.now)).lines) out.old out.new result.length }
-    ensures engine_value { result.engine ≡ (walk_from 0 start (drop from file.now)).engine }
+    ensures puts { Puts 0 most_text (lines_text 0 (walk_from 0 engine.old (drop from file.now)).lines) out.old out.new result }
+    ensures engine_value { engine.new ≡ (walk_from 0 engine.old (drop from file.now)).engine }
 {
-    let mut engine = start;
-    let mut place = from;
-    let mut index: u32 = 0;
     let mut at: usize = 0;
-    while place < file.len() {
-        let handed = hand_out(file, place);
-        let item = handed.item;
+    for (index, item) in reader_at(file, from).enumerate() {
         match item {
-            Item::End => return Replayed { engine, length: at },
-            Item::Refused(r) => {
-                let length = put_line(out, at, index, refused_line(r));
-                return Replayed { engine, length };
-            }
-            Item::Record(here, _) => {
-                let made = make(engine, &file[here..]);
-                let line = made.line;
+            Err(r) => return put_line(out, at, index, refused_line(r)),
+            Ok((here, _)) => {
+                let line = make(engine, &file[here..]);
                 at = put_line(out, at, index, line);
-                engine = made.engine;
-                place = handed.place;
-                index += 1;
-                continue;
             }
         }
     }
-    Replayed { engine, length: at }
+    at
 }
 
 // A number alone on a line.
@@ -91,9 +85,8 @@ fn put_alone(out: &mut [u8], r: Refusal) -> usize
     requires { 21 ≤ length out.old }
     ensures { Puts 0 21 (number_line r) out.old out.new result }
 {
-    let number = r.number();
-    let next = text::put_decimal(out, 0, number as u64);
-    text::put(out, next, 10)
+    let next = text::put_decimal(out, 0, u64::from(r.number()));
+    text::put(out, next, b'\n')
 }
 
 // Nothing is walked: a number, and the blank state.
@@ -102,40 +95,38 @@ fn stopped(r: Refusal, out: &mut [u8]) -> Replayed
     ensures puts { Puts 0 21 (number_line r) out.old out.new result.length }
     ensures engine_value { result.engine ≡ blank_of }
 {
-    let length = put_alone(out, r);
-    let engine = Engine::blank();
-    Replayed { engine, length }
+    Replayed {
+        engine: Engine::blank(),
+        length: put_alone(out, r),
+    }
 }
 
 // "Standard input above 65,536 bytes, or else a setup cut short"
 fn no_setup(file: &[u8]) -> bool
     ensures { result ≡ no_setup file.now }
 {
-    if 65536 < file.len() {
-        return true;
-    }
-    if file.len() < 2 {
-        return true;
-    }
-    let n = records::length_of(file);
-    file.len() < n
+    65536 < file.len() || file.len() < 2 || file.len() < records::length_of(file)
 }
 
 // The file's first n bytes are its setup record; the rest is walked where that is accepted.
+#[tactic(auto, using(crate::proofs::Walks::state_refused, crate::proofs::Walks::state_walk))]
 fn on_setup(file: &[u8], n: usize, out: &mut [u8]) -> Replayed
     requires { (n ≤ length file.now) × (length file.now ≤ most_file) × (most_text ≤ length out.old) }
     ensures puts { Puts 0 most_text (setup_text file.now n) out.old out.new result.length }
     ensures engine_value { result.engine ≡ setup_state file.now n }
 {
-    let done = Engine::setup(&file[..n]);
-    let told = done.told;
+    let Outcome { mut engine, told } = Engine::setup(&file[..n]);
     match told {
-        Told::Refused(r) => stopped(r, out),
-        Told::Accepted => walk(file, n, done.engine, out),
+        Err(r) => stopped(r, out),
+        Ok(()) => {
+            let length = walk(file, n, &mut engine, out);
+            Replayed { engine, length }
+        }
     }
 }
 
 // What the program `replay` prints of a file, at the front of the buffer, and the state that the file's calls leave.
+#[tactic(auto, using(crate::proofs::Walks::state_five, crate::proofs::Walks::state_rest))]
 pub fn replay(file: &[u8], out: &mut [u8; 860160]) -> Replayed
     ensures puts { Puts 0 most_text (printed_of file.now) out.old out.new result.length }
     ensures engine_value { result.engine ≡ replayed_state file.now }
@@ -143,6 +134,5 @@ pub fn replay(file: &[u8], out: &mut [u8; 860160]) -> Replayed
     if no_setup(file) {
         return stopped(Refusal::Length, out);
     }
-    let n = records::length_of(file);
-    on_setup(file, n, out)
+    on_setup(file, records::length_of(file), out)
 }

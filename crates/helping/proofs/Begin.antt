@@ -1,4 +1,5 @@
 -- A fresh setup has the invariant, and begin, collect and drop keep it.
+use Rattle.std.specs.Prelude.{Option, Some}
 use Prim.Native.Nat.{ℕ, suc, ◌*◌, ◌-◌, ◌≤◌, ◌<◌}
 use native.Mathlib.Omega.{arith}
 use native.Mathlib.Nat.{le_refl}
@@ -9,8 +10,6 @@ use mathlib.Core.Bool.{Bool, true, false}
 use mathlib.Core.List.{List, []}
 use lib.Dec.{eqb}
 use Rattle.parts.specs.Pick.{pick}
-use Rattle.parts.specs.declared.Fill.{Fill}
-use Rattle.parts.specs.declared.Holder.TheVariants.{By}
 use Rattle.parts.specs.declared.Instr.{Instr}
 use Rattle.steps.specs.Worker.{worker0, looking_of}
 use Rattle.steps.specs.declared.Point.{Point}
@@ -24,6 +23,7 @@ use Rattle.helping.proofs.Put.{put_same, put_other, put_at_lem, all_but}
 use Rattle.helping.proofs.Frame.{Passed, frame, named_on, retold, only_worker}
 use Rattle.helping.proofs.Spared.{Spared, sheet_spared, passed_spared, sheet_as}
 use Rattle.helping.proofs.Change.{lock_kept, same_of}
+use Rattle.parts.specs.declared.Reading.{Reading}
 
 pub fresh_ok : (K : Rules) (E : Scene) → Fresh K E → Next K E untold
 unfolding gives_of times
@@ -80,7 +80,7 @@ begin_ok K E T st o i l s code u f =
             sheet =
                 all_but (λ z. SheetOk K v' E.lock z (put st s renewed z).kind) s
                 (sheet_as K v' E.lock s renewed (put_same st s renewed)
-                (put_same E.done s _, λ p. ap (λ (g : ℕ → Fill). g p) (put_same E.log s _)))
+                (put_same E.done s _, λ p. ap (λ (g : ℕ → Option Reading). g p) (put_same E.log s _)))
                 (λ z n. sheet_spared K v v' E.lock E.lock z (spared z n) (o.sheet z));
             lock =
                 λ m.
@@ -91,7 +91,7 @@ begin_ok K E T st o i l s code u f =
                 (omega arith, (fresh, subst (Fine K l) (sym (put_same E.program s code)) f))
                 (λ m n.
                 frame K v v' (E.worker m) (E.worker m).state
-                (λ p e. passed _ (u.owned m p e)) (λ p z e h won. passed z (λ y. u.helped m p e (h ∙ ap By y)))
+                (λ p e. passed _ (u.owned m p e)) (λ p z e h won. passed z (λ y. u.helped m p e (h ∙ ap Some y)))
                 (o.worker m));
             named = λ m. named m (eqb m i);
             apart = λ a b p q. apart a b p q (eqb a i) (eqb b i) refl refl;

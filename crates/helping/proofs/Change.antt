@@ -1,13 +1,12 @@
 -- What the invariant says of one sheet and of one lock; and the invariant after a change that every sheet passes, and that leaves
 -- the workers and the tale as they were.
+use Rattle.std.specs.Prelude.{None, Option, Some}
 use Prim.Native.Nat.{ℕ, ◌*◌, ◌-◌, ◌≤◌}
 use native.Mathlib.Omega.{arith}
 use mathlib.Core.Path.{◌≡◌, refl, sym, ap, ◌∙◌, subst}
 use mathlib.Core.Logic.{◌≢◌}
 use mathlib.Core.List.{List}
 use lib.ListN.{get_or}
-use Rattle.parts.specs.declared.Holder.{Holder}
-use Rattle.parts.specs.declared.Holder.TheVariants.{Free, By}
 use Rattle.parts.specs.declared.LockWord.{LockWord}
 use Rattle.parts.specs.declared.Reading.{Reading}
 use Rattle.alone.specs.Jobs.{Try, gives_of}
@@ -43,11 +42,11 @@ module _ (K : Rules) (T T' : Tale) (l t : ℕ) (list : T'.won l ≡ T.won l) whe
       }
 
   pub lock_kept :
-      (w w' : ℕ → Reading) (st : ℕ → Status) (s : ℕ) (σ : Status) (h : Holder) →
-      (h ≡ Free → (q : ℕ) → Guarded K l q → w' q ≡ w q) →
-      (h ≡ By s → HeldOk K T (st s) l t → Steady (st s) σ) → LockOk K w T st l t h →
+      (w w' : ℕ → Reading) (st : ℕ → Status) (s : ℕ) (σ : Status) (h : Option ℕ) →
+      (h ≡ None → (q : ℕ) → Guarded K l q → w' q ≡ w q) →
+      (h ≡ Some s → HeldOk K T (st s) l t → Steady (st s) σ) → LockOk K w T st l t h →
       LockOk K w' T' (put st s σ) l t h
-  lock_kept w w' st s σ Free f g o =
+  lock_kept w w' st s σ None f g o =
       record {
         early = o.early;
         values =
@@ -56,11 +55,11 @@ module _ (K : Rules) (T T' : Tale) (l t : ℕ) (list : T'.won l ≡ T.won l) whe
             ap (λ (ts : List Try). get_or (gives_of ts K.values) q 0) (sym list);
         counts = λ q z. rw (f refl q z) (o.counts q z);
       }
-  lock_kept w w' st s σ (By a) f g o =
+  lock_kept w w' st s σ (Some a) f g o =
       held_kept (st a) (put st s σ a)
       (put_case st s σ (Steady (st a)) a
       (λ e.
-      subst (λ (m : ℕ). Steady (st m) σ) (sym e) (g (ap By e) (subst (λ (m : ℕ). HeldOk K T (st m) l t) e o)))
+      subst (λ (m : ℕ). Steady (st m) σ) (sym e) (g (ap Some e) (subst (λ (m : ℕ). HeldOk K T (st m) l t) e o)))
       (λ n. record { kind = refl; job = refl; turn = refl }))
       o
 
@@ -102,22 +101,22 @@ module _ (K : Rules) (E : Scene) (T : Tale) (st : ℕ → Status) (o : Ok K E T 
   pub lock_is : (l : ℕ) (x : LockWord) → E.lock l ≡ x → LockOk K E.word T st l x.turn x.holder
   lock_is l x e = subst (λ (y : LockWord). LockOk K E.word T st l y.turn y.holder) e (o.lock l)
 
-  pub lock_at_lem : (l : ℕ) (h : Holder) → (E.lock l).holder ≡ h → LockOk K E.word T st l (E.lock l).turn h
+  pub lock_at_lem : (l : ℕ) (h : Option ℕ) → (E.lock l).holder ≡ h → LockOk K E.word T st l (E.lock l).turn h
   lock_at_lem l h e = lock_is l _ (λ i. record { turn = (E.lock l).turn; holder = e i })
 
   -- the words of a held lock are the ideal run's, and their counts are low
   pub held_word :
-      (l s : ℕ) → (E.lock l).holder ≡ By s → (q : ℕ) → Guarded K l q →
+      (l s : ℕ) → (E.lock l).holder ≡ Some s → (q : ℕ) → Guarded K l q →
       E.word q ≡ (ideal_of (st s).job (st s).front).words q
   held_word l s e q g =
-      let H = lock_at_lem l (By s) e in
+      let H = lock_at_lem l (Some s) e in
       (sheet_at s current H.kind).2.words q (g.0, g.1 ∙ sym H.lock)
 
   pub held_counts :
-      (l s : ℕ) → (E.lock l).holder ≡ By s → (q : ℕ) → Guarded K l q →
+      (l s : ℕ) → (E.lock l).holder ≡ Some s → (q : ℕ) → Guarded K l q →
       (E.word q).count ≤ (K.most - 1) * (E.lock l).turn
   held_counts l s e q g =
-      let H = lock_at_lem l (By s) e in
+      let H = lock_at_lem l (Some s) e in
       let f = (sheet_at s current H.kind).0.fine in
       let J : Job = (st s).job in
       let n : ℕ = (st s).front in
@@ -131,20 +130,20 @@ module _ (K : Rules) (E : Scene) (T : Tale) (st : ℕ → Status) (o : Ok K E T 
         H.counts q g,
       )
 
-  pub won_held : (l s : ℕ) → (E.lock l).holder ≡ By s → Won (st s) l (E.lock l).turn
+  pub won_held : (l s : ℕ) → (E.lock l).holder ≡ Some s → Won (st s) l (E.lock l).turn
   won_held l s e =
-      let H = lock_at_lem l (By s) e in
+      let H = lock_at_lem l (Some s) e in
       record { is = λ u. won_kind current (omega arith) (sym H.kind ∙ u); lock = H.lock; turn = H.turned }
 
   -- two sheets don't hold one lock
   pub one_holder :
       (a b : ℕ) → (st a).kind ≡ current → (st b).kind ≡ current → (st a).job.lock ≡ (st b).job.lock → a ≡ b
   one_holder a b x y e =
-      let d : By a ≡ By b =
+      let d : Some a ≡ Some b =
       ap (λ (w : LockWord). w.holder) (sym (sheet_at a current x).1 ∙ ap E.lock e ∙ (sheet_at b current y).1) in
       cc
 
-  pub held_by : (s l : ℕ) → (st s).kind ≡ current → (st s).job.lock ≡ l → (E.lock l).holder ≡ By s
+  pub held_by : (s l : ℕ) → (st s).kind ≡ current → (st s).job.lock ≡ l → (E.lock l).holder ≡ Some s
   held_by s l e z = ap (λ (m : ℕ). (E.lock m).holder) (sym z) ∙ ap (λ (w : LockWord). w.holder) (sheet_at s current e).1
 
   pub passes :

@@ -1,4 +1,5 @@
 -- One step of one run keeps the invariant, for itself and for every other run of the sheet.
+use Rattle.std.specs.Prelude.{None, Some}
 use Prim.Native.Nat.{ℕ, suc, ◌≤◌, ◌<◌}
 use mathlib.Core.Path.{◌≡◌, refl, sym, ap, ◌∙◌, subst}
 use mathlib.Core.Logic.{◌⊎◌, inl, inr, ⊎_elim}
@@ -6,7 +7,6 @@ use native.Mathlib.Nat.{eq-or-lt_of_le, le_refl, le_trans}
 use native.Mathlib.Omega.{arith}
 use lib.Dec.{eqb}
 use Rattle.parts.specs.Pick.{pick}
-use Rattle.parts.specs.declared.Fill.TheVariants.{Empty, Filled}
 use Rattle.parts.specs.declared.Follows.{Follows}
 use Rattle.parts.specs.declared.Follows.TheVariants as follows
 use Rattle.parts.specs.declared.Reading.{Reading}
@@ -24,14 +24,14 @@ use Rattle.helping.proofs.Commit.{empty_here, Committed, log_of, word_right, com
 push :
     (K : Rules) (J : Job) (n : ℕ) (x : Shared) (ws : ℕ → Reading) → Inv K J n x →
     ((q : ℕ) → Guarded K J.lock q → ws q ≡ (ideal_of J (suc n)).words q) →
-    (Logs (act_in J n) → logged_in J x n ≡ Filled (met_in J n)) →
+    (Logs (act_in J n) → logged_in J x n ≡ Some (met_in J n)) →
     Inv K J (suc n) (record { word = ws; log = x.log })
 push K J n x ws v e f =
     record {
       words = e;
       past = λ j h t.
           ⊎_elim
-          (λ (z : j ≡ n). subst (λ (k : ℕ). Logs (act_in J k) → logged_in J x k ≡ Filled (met_in J k)) (sym z) f t)
+          (λ (z : j ≡ n). subst (λ (k : ℕ). Logs (act_in J k) → logged_in J x k ≡ Some (met_in J k)) (sym z) f t)
           (λ (z : j < n). v.past j z t) (eq-or-lt_of_le {n = j} {m = n} (omega arith));
       here = λ t. inl (v.later (ideal_of J (suc n)).place (le_refl _));
       later = λ p h. v.later p (le_trans (places_up J (suc n) (suc (suc n)) (omega arith)) h);
@@ -65,7 +65,7 @@ chain K J n x n' x' b m k =
 module _ (K : Rules) (J : Job) (n j : ℕ) (x : Shared) (ws : ℕ → Reading) (r : Run) (at : Stage) where
   finish :
       Inv K J n x → j ≤ n → In J (suc j) (record { word = ws; log = x.log }) r at →
-      (Logs (act_in J j) → logged_in J x j ≡ Filled (met_in J j)) →
+      (Logs (act_in J j) → logged_in J x j ≡ Some (met_in J j)) →
       (ws ≡ x.word) ⊎ Logs (act_in J j) →
       (j < n → ws ≡ x.word) →
       (j ≡ n → (q : ℕ) → Guarded K J.lock q → ws q ≡ (ideal_of J (suc j)).words q) →
@@ -73,12 +73,12 @@ module _ (K : Rules) (J : Job) (n j : ℕ) (x : Shared) (ws : ℕ → Reading) (
   finish v h i f c late now = go (eq-or-lt_of_le h)
     where
       still :
-          (k : ℕ) → k ≤ n → j ≡ n → (ws ≡ x.word) ⊎ Logs (act_in J j) → Touches (act_in J k) → logged_in J x k ≡ Empty →
+          (k : ℕ) → k ≤ n → j ≡ n → (ws ≡ x.word) ⊎ Logs (act_in J j) → Touches (act_in J k) → logged_in J x k ≡ None →
           ws (target (act_in J k)) ≡ x.word (target (act_in J k))
       still k l z (inl e) t y = ap (λ (g : ℕ → Reading). g (target (act_in J k))) e
       still k l z (inr d) t y =
           let e : k ≡ j = empty_here K J n k x v l (logs (act_in J k) t) y ∙ sym z in
-          let y' : logged_in J x j ≡ Empty = rw e at y in
+          let y' : logged_in J x j ≡ None = rw e at y in
           cc (f d)
 
       go :
@@ -89,7 +89,7 @@ module _ (K : Rules) (J : Job) (n j : ℕ) (x : Shared) (ws : ℕ → Reading) (
             inv =
                 push K J n x ws v
                 (subst (λ (k : ℕ). (q : ℕ) → Guarded K J.lock q → ws q ≡ (ideal_of J (suc k)).words q) z (now z))
-                (subst (λ (k : ℕ). Logs (act_in J k) → logged_in J x k ≡ Filled (met_in J k)) z f);
+                (subst (λ (k : ℕ). Logs (act_in J k) → logged_in J x k ≡ Some (met_in J k)) z f);
             stands = record { j = suc j; behind = omega arith; inn = i };
             moved =
                 record {
@@ -116,7 +116,7 @@ module _ (K : Rules) (J : Job) (n j : ℕ) (x : Shared) (ws : ℕ → Reading) (
 module _ (K : Rules) (J : Job) (n : ℕ) (x : Shared) (j : ℕ) (v : Inv K J n x) (h : j ≤ n) where
   -- an instruction that changes no word
   plain :
-      (r : Run) (at : Stage) → In J (suc j) x r at → (Logs (act_in J j) → logged_in J x j ≡ Filled (met_in J j)) →
+      (r : Run) (at : Stage) → In J (suc j) x r at → (Logs (act_in J j) → logged_in J x j ≡ Some (met_in J j)) →
       (ideal_of J (suc j)).words ≡ (ideal_of J j).words → StepKeeps K J n x (record { shared = x; run = r; stage = at })
   plain r at i g e =
       finish K J n j x x.word r at v h i g (inl refl) (λ z. refl)
@@ -149,17 +149,17 @@ module _ (K : Rules) (J : Job) (f : FineJob K J) (n : ℕ) (x : Shared) (j : ℕ
   follow_kept r at p x' e c (follows.Done rs) q =
       let g = subst (λ (u : Reading). Follow (act_in J j) u.value (follows.Done rs)) c.right q in
       chain K J n x n x' _ c.moved
-      (plain K J n x' j c.inv h _ _ (done_on J j r at x' rs g p) (λ t. c.now ∙ ap Filled c.right)
+      (plain K J n x' j c.inv h _ _ (done_on J j r at x' rs g p) (λ t. c.now ∙ ap Some c.right)
       (ap (λ (s : Ideal). s.words) (next_done (act_in J j) (ideal_of J j) rs g)))
   follow_kept r at p x' e c (follows.Swap new) q =
       let g = subst (λ (u : Reading). Follow (act_in J j) u.value (follows.Swap new)) c.right q in
       chain K J n x n x' _ c.moved
       (stay K J n x' _ _ c.inv
-      (record { j = j; behind = h; inn = (at, p, g, c.right, c.now ∙ ap Filled c.right) }))
+      (record { j = j; behind = h; inn = (at, p, g, c.right, c.now ∙ ap Some c.right) }))
 
   commit_kept :
       (r : Run) (u : Reading) → At J j r → r.place ≡ (ideal_of J j).place → Logs (act_in J j) →
-      (Touches (act_in J j) → logged_in J x j ≡ Empty → u ≡ x.word (target (act_in J j))) → (a : Act) → act_in J j ≡ a →
+      (Touches (act_in J j) → logged_in J x j ≡ None → u ≡ x.word (target (act_in J j))) → (a : Act) → act_in J j ≡ a →
       StepKeeps K J n x (machine_commit a x r u)
   commit_kept r u at p t w (fin said) e = absurd (subst Logs e t)
   commit_kept r u at p t w (go rs k) e = absurd (subst Logs e t)
@@ -174,7 +174,7 @@ module _ (K : Rules) (J : Job) (f : FineJob K J) (n : ℕ) (x : Shared) (j : ℕ
   -- the first swap takes effect, and a late one does nothing
   swap_kept :
       (r : Run) (new : ℕ) → At J j r → r.place ≡ suc (ideal_of J j).place →
-      Follow (act_in J j) (met_in J j).value (follows.Swap new) → logged_in J x j ≡ Filled (met_in J j) →
+      Follow (act_in J j) (met_in J j).value (follows.Swap new) → logged_in J x j ≡ Some (met_in J j) →
       let w = target (act_in J j) in
       StepKeeps K J n x
       (record {

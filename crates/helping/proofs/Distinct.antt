@@ -1,10 +1,9 @@
 -- What the kinds of a sheet, and the holders of a lock, tell apart: used where a change can't touch a sheet or a lock.
+use Rattle.std.specs.Prelude.{None, Option, Some}
 use Prim.Native.Nat.{ℕ, ◌<◌}
 use native.Mathlib.Omega.{arith}
 use mathlib.Core.Path.{◌≡◌, sym, ap, ◌∙◌}
 use mathlib.Core.Logic.{◌≢◌}
-use Rattle.parts.specs.declared.Holder.{Holder}
-use Rattle.parts.specs.declared.Holder.TheVariants.{Free, By}
 use Rattle.helping.specs.Ok.{Kind, unwon, current, past}
 
 abbrev rank : Kind → ℕ
@@ -17,8 +16,8 @@ pub won_kind : (κ : Kind) → 0 < rank κ → κ ≢ unwon
 won_kind κ h e = omega (arith, h, ap rank e)
 
 -- a free lock names no sheet
-pub free_holds : (h : Holder) (s : ℕ) → h ≡ Free → h ≢ By s
+pub free_holds : (h : Option ℕ) (s : ℕ) → h ≡ None → h ≢ Some s
 free_holds h s a b =
-    let d : Free ≡ By s = sym a ∙ b in
+    let d : None ≡ Some s = sym a ∙ b in
     let z : ◌≡◌ {A = ℕ} 0 1 = cc in
     omega arith

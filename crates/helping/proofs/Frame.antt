@@ -1,11 +1,11 @@
 -- What a change of the scene leaves of the invariant of the workers, sheets and locks that it does not touch.
+use Rattle.std.specs.Prelude.{Some}
 use Prim.Native.Nat.{ℕ}
 use mathlib.Core.Path.{◌≡◌, refl, sym, ap, ◌∙◌, subst}
 use mathlib.Core.Logic.{◌⊎◌, inl, inr, ◌≢◌}
 use mathlib.Core.Bool.{true}
 use mathlib.Core.List.{List}
 use Rattle.parts.specs.declared.Answer.TheVariants.{RanYes, RanNo, NotTaken, Worn}
-use Rattle.parts.specs.declared.Holder.TheVariants.{By}
 use Rattle.steps.specs.Places.{helped_of}
 use Rattle.steps.specs.declared.Point.{Point}
 use Rattle.steps.specs.declared.Point.TheVariants.{Look, Grab, LookAgain, ReadMark}
@@ -64,7 +64,7 @@ module _ (K : Rules) (v v' : View) where
 
   point_frame :
       (own l : ℕ) (p : Point) → Passed v v' own →
-      ((t : ℕ) → helped_of p ≡ By t → (v.st t).kind ≢ unwon → Passed v v' t) → PointOk K v own l p →
+      ((t : ℕ) → helped_of p ≡ Some t → (v.st t).kind ≢ unwon → Passed v v' t) → PointOk K v own l p →
       PointOk K v' own l p
   unfolding helped_of
   point_frame own l Look q f i = (q.un i.0, subst (Fine K l) (sym q.program) i.1)
@@ -83,7 +83,7 @@ module _ (K : Rules) (v v' : View) where
 -- a worker whose own sheet passed the change, and so did the sheet that it helps, if that has won
 pub frame :
     (K : Rules) (v v' : View) (k : Worker) (s : State) → ((p : Point) → s ≡ UnderWay p → Passed v v' k.own) →
-    ((p : Point) (t : ℕ) → s ≡ UnderWay p → helped_of p ≡ By t → (v.st t).kind ≢ unwon → Passed v v' t) →
+    ((p : Point) (t : ℕ) → s ≡ UnderWay p → helped_of p ≡ Some t → (v.st t).kind ≢ unwon → Passed v v' t) →
     StateOk K v k s → StateOk K v' k s
 frame K v v' k Idle f g o = o
 frame K v v' k (UnderWay p) f g o = (o.0, point_frame K v v' k.own k.lock p (f p refl) (λ t. g p t refl) o.1)

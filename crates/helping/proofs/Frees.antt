@@ -1,4 +1,5 @@
 -- The sheet that holds a lock lets go of it, at a halt and marked: the invariant stays. The lock's words are what its jobs give.
+use Rattle.std.specs.Prelude.{None, Some}
 use Prim.Native.Nat.{ℕ, ◌*◌, ◌-◌, ◌≤◌}
 use native.Mathlib.Nat.{le_refl, le_of_eq}
 use native.Mathlib.Omega.{arith}
@@ -7,7 +8,6 @@ use mathlib.Core.Logic.{◌≢◌}
 use mathlib.Core.Bool.{Bool, true}
 use mathlib.Core.List.{List}
 use lib.ListN.{get_or}
-use Rattle.parts.specs.declared.Holder.TheVariants.{Free, By}
 use Rattle.parts.specs.declared.Instr.{Instr}
 use Rattle.parts.specs.declared.LockWord.{LockWord}
 use Rattle.parts.specs.declared.Reading.{Reading}
@@ -29,10 +29,10 @@ abbrev pub over_of : Status → Status
 over_of σ = record { kind = past; job = σ.job; turn = σ.turn; front = σ.front }
 
 abbrev pub free_at : ℕ → LockWord
-free_at t = record { turn = t; holder = Free }
+free_at t = record { turn = t; holder = None }
 
 module _ (K : Rules) (E : Scene) (T : Tale) (st : ℕ → Status) (o : Ok K E T st) (s l t : ℕ)
-    (is : E.lock l ≡ record { turn = t; holder = By s }) (said : Bool)
+    (is : E.lock l ≡ record { turn = t; holder = Some s }) (said : Bool)
     (halts : act_in (st s).job (st s).front ≡ fin said) (done : E.done s ≡ true) where
   abbrev after : ℕ → Status
   after = put st s (over_of (st s))
@@ -40,7 +40,7 @@ module _ (K : Rules) (E : Scene) (T : Tale) (st : ℕ → Status) (o : Ok K E T 
   holds : HeldOk K T (st s) l t
   holds = lock_is K E T st o l _ is
 
-  names : (E.lock l).holder ≡ By s
+  names : (E.lock l).holder ≡ Some s
   names = ap (λ (x : LockWord). x.holder) is
 
   held_sheet : SheetOk K (view_of E st) E.lock s current

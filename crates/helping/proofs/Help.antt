@@ -1,4 +1,5 @@
 -- A held lock: a first part of its last job; and a helper, stepped alone, completes it.
+use Rattle.std.specs.Prelude.{None, Option, Some}
 use Prim.Native.Nat.{ℕ, zero, suc, ◌+◌, ◌≤◌, ◌<◌}
 use native.Mathlib.Omega.{arith}
 use borrow.Author.Tests.{eq-eqb, ne_eqb}
@@ -10,8 +11,6 @@ use lib.ListN.{get_or}
 use Rattle.parts.specs.Numbers.{longest_run, help_steps}
 use Rattle.parts.specs.declared.Answer.{Answer}
 use Rattle.parts.specs.declared.Answer.TheVariants.{NotTaken}
-use Rattle.parts.specs.declared.Holder.{Holder}
-use Rattle.parts.specs.declared.Holder.TheVariants.{Free, By}
 use Rattle.parts.specs.declared.Instr.{Instr}
 use Rattle.parts.specs.declared.LockWord.{LockWord}
 use Rattle.parts.specs.declared.Reading.{Reading}
@@ -48,10 +47,10 @@ pub record Part (K : Rules) (E : Scene) (T : Tale) (l s : ℕ) : Type 0 where
       (E.word q).value ≡ get_or (part_of k last.program (gives_of earlier K.values)) q 0
 
 pub held_part :
-    (K : Rules) (E : Scene) (T : Tale) (st : ℕ → Status) → Ok K E T st → (l s : ℕ) → (E.lock l).holder ≡ By s →
+    (K : Rules) (E : Scene) (T : Tale) (st : ℕ → Status) → Ok K E T st → (l s : ℕ) → (E.lock l).holder ≡ Some s →
     Part K E T l s
 held_part K E T st o l s e =
-    let h = lock_at_lem K E T st o l (By s) e in
+    let h = lock_at_lem K E T st o l (Some s) e in
     let on = (sheet_at K E T st o s current h.kind).0 in
     let vs = gives_of h.earlier K.values in
     let part = part_alone K (st s).job on.fine vs (gives_length h.earlier K.values) h.from (st s).front in
@@ -71,7 +70,7 @@ held_part K E T st o l s e =
 -- what all of its jobs give
 pub record Completed (K : Rules) (E : Scene) (T : Tale) (i l turn : ℕ) : Type 0 where
   pub answer : (E.worker i).state ≡ Finished NotTaken
-  pub lock : E.lock l ≡ record { turn = turn; holder = Free }
+  pub lock : E.lock l ≡ record { turn = turn; holder = None }
   pub words : (q : ℕ) → Guarded K l q → (E.word q).value ≡ get_or (gives_of (T.won l) K.values) q 0
 
 -- a worker that has finished stays
@@ -113,7 +112,7 @@ module _ (K : Rules) (T : Tale) (i l s t : ℕ) where
     state : (E.worker i).state ≡ UnderWay p
     lock : (E.worker i).lock ≡ l
     own : s ≢ (E.worker i).own
-    held : E.lock l ≡ record { turn = t; holder = By s }
+    held : E.lock l ≡ record { turn = t; holder = Some s }
 
   -- once it went on, and the lock words stayed
   moved :
@@ -138,7 +137,7 @@ module _ (K : Rules) (T : Tale) (i l s t : ℕ) where
   step_first n E p e c = subst (λ (z : State). Completed K (alone_steps K i n (onward K i E z)) T i l t) (sym e) c
 
   -- the last step: release
-  released : machine_release (record { turn = t; holder = By s }) t s ≡ record { turn = t; holder = Free }
+  released : machine_release (record { turn = t; holder = Some s }) t s ≡ record { turn = t; holder = None }
   unfolding machine_release
   released = rw (eq-eqb s s refl, eq-eqb t t refl)
 
@@ -151,12 +150,12 @@ module _ (K : Rules) (T : Tale) (i l s t : ℕ) where
       let next = step_ok K E T st o i (Point.Run r (Release said)) h.state in
       let ends : (D.worker i).state ≡ Finished NotTaken =
       ap (λ (k : Worker). k.state) (put_same E.worker i _) ∙ told in
-      let free : D.lock l ≡ record { turn = t; holder = Free } =
+      let free : D.lock l ≡ record { turn = t; holder = None } =
       subst
-      (λ (m : ℕ). put E.lock m (machine_release (E.lock m) r.won r.sheet) l ≡ record { turn = t; holder = Free })
+      (λ (m : ℕ). put E.lock m (machine_release (E.lock m) r.won r.sheet) l ≡ record { turn = t; holder = None })
       (sym h.lock)
       (put_same E.lock l _ ∙ (λ j. machine_release (h.held j) (won j) (sheet j)) ∙ released) in
-      let ok = lock_at_lem K D T next.st next.ok l Free (ap (λ (x : LockWord). x.holder) free) in
+      let ok = lock_at_lem K D T next.st next.ok l None (ap (λ (x : LockWord). x.holder) free) in
       step_first n E (Point.Run r (Release said)) h.state
       (subst (λ (F : Scene). Completed K F T i l t) (sym (finished_stays K i n D NotTaken ends))
       (record { answer = ends; lock = free; words = ok.values }))
@@ -202,7 +201,7 @@ module _ (K : Rules) (T : Tale) (i l s t : ℕ) where
 
 pub completes :
     (K : Rules) (E : Scene) (T : Tale) (st : ℕ → Status) → Ok K E T st → (i s : ℕ) →
-    (E.worker i).state ≡ UnderWay Look → (E.lock (E.worker i).lock).holder ≡ By s →
+    (E.worker i).state ≡ UnderWay Look → (E.lock (E.worker i).lock).holder ≡ Some s →
     Completed K (alone_steps K i (help_steps K.most) E) T i (E.worker i).lock (E.lock (E.worker i).lock).turn
 unfolding step_at step_tale look_to
 completes K E T st o i s e h =
@@ -218,7 +217,7 @@ completes K E T st o i s e h =
     count : suc (longest_run K.most + 2) ≡ help_steps K.most
     count = omega arith
 
-    held : E.lock l ≡ record { turn = t; holder = By s }
+    held : E.lock l ≡ record { turn = t; holder = Some s }
     held = λ j. record { turn = t; holder = h j }
 
     other : s ≢ (E.worker i).own
@@ -229,7 +228,7 @@ completes K E T st o i s e h =
         put E.worker i (machine_moved (E.worker i) (UnderWay (Point.Run (start_of s t) Read)))
     worker =
         ap
-        (λ (x : Holder).
+        (λ (x : Option ℕ).
         put E.worker i (machine_moved (E.worker i) (look_to K.last (record { turn = t; holder = x }))))
         h
 

@@ -1,4 +1,5 @@
 -- The steps that look: at the lock, again at the lock, and at the own mark. Only the worker changes, and the invariant stays.
+use Rattle.std.specs.Prelude.{None, Option, Some}
 use Prim.Native.Nat.{ℕ, ◌+◌, ◌*◌, ◌-◌, ◌<◌}
 use native.Mathlib.Omega.{arith}
 use native.Mathlib.Decide.{ℕ_discrete}
@@ -7,11 +8,9 @@ use mathlib.Core.Logic.{◌⊎◌, inl, inr, ◌≢◌}
 use mathlib.Core.Bool.{Bool, true, false}
 use lib.Dec.{eqb}
 use borrow.Author.Tests.{eqb-true, eqb-false}
-use Rattle.parts.specs.Pick.{pick, on_holder}
+use Rattle.parts.specs.Pick.{pick, on_option}
 use Rattle.parts.specs.declared.Answer.{Answer}
 use Rattle.parts.specs.declared.Answer.TheVariants.{NotTaken, Worn}
-use Rattle.parts.specs.declared.Holder.{Holder}
-use Rattle.parts.specs.declared.Holder.TheVariants.{Free, By}
 use Rattle.parts.specs.declared.LockWord.{LockWord}
 use Rattle.steps.specs.Try.{start_of}
 use Rattle.steps.specs.declared.Point.{Point}
@@ -93,27 +92,27 @@ module _ (K : Rules) (E : Scene) (T : Tale) (st : ℕ → Status) (o : Ok K E T 
       q = (mine K E T st o i Look e).1
 
       free :
-          (b : Bool) → (E.lock l).holder ≡ Free → eqb (E.lock l).turn K.last ≡ b →
+          (b : Bool) → (E.lock l).holder ≡ None → eqb (E.lock l).turn K.last ≡ b →
           Ok K (on_to E i (E.worker i) (pick b (Finished Worn) (UnderWay (Grab (E.lock l).turn)))) T st
       free true h z = ends K E T st o i Look e Worn (omega arith) ((mine_named K E T st o i Look e).absent q.0)
       free false h z =
-          let f = lock_at_lem K E T st o l Free h in
+          let f = lock_at_lem K E T st o l None h in
           goes K E T st o i Look e (Grab (E.lock l).turn) (omega arith)
           (q.0, q.1, omega (arith, f.early, eqb-false (E.lock l).turn K.last z))
 
       go :
-          (h : Holder) → (E.lock l).holder ≡ h →
+          (h : Option ℕ) → (E.lock l).holder ≡ h →
           Ok K
           (on_to E i (E.worker i)
-          (on_holder h (pick (eqb (E.lock l).turn K.last) (Finished Worn) (UnderWay (Grab (E.lock l).turn)))
+          (on_option h (pick (eqb (E.lock l).turn K.last) (Finished Worn) (UnderWay (Grab (E.lock l).turn)))
           (λ s. UnderWay (Point.Run (start_of s (E.lock l).turn) Read))))
           T st
-      go Free h = free (eqb (E.lock l).turn K.last) h refl
-      go (By s) h =
+      go None h = free (eqb (E.lock l).turn K.last) h refl
+      go (Some s) h =
           runs K E T st o i Look e s (E.lock l).turn (omega arith) (λ n. q.0) (won_held K E T st o l s h)
 
   -- a sheet that the lock does not name does not hold it
-  not_holder : (won : ℕ) → (E.lock l).holder ≢ By own → ((st own).kind ≡ unwon) ⊎ Won (st own) l won → Lost (st own) l won
+  not_holder : (won : ℕ) → (E.lock l).holder ≢ Some own → ((st own).kind ≡ unwon) ⊎ Won (st own) l won → Lost (st own) l won
   not_holder won n (inl u) = inl u
   not_holder won n (inr w) = go (st own).kind refl
     where
@@ -134,7 +133,7 @@ module _ (K : Rules) (E : Scene) (T : Tale) (st : ℕ → Status) (o : Ok K E T 
         other = λ n. not_holder won n q;
       })
     where
-      itself : (E.lock l).holder ≡ By own → ((st own).kind ≡ unwon) ⊎ Won (st own) l won → Won (st own) l won
+      itself : (E.lock l).holder ≡ Some own → ((st own).kind ≡ unwon) ⊎ Won (st own) l won → Won (st own) l won
       itself h (inl u) = absurd ((won_held K E T st o l own h).is u)
       itself h (inr w) = w
 
@@ -169,40 +168,40 @@ module _ (K : Rules) (E : Scene) (T : Tale) (st : ℕ → Status) (o : Ok K E T 
       run_own : Won (st own) l won → Ok K (on_to E i (E.worker i) (UnderWay (Point.Run (start_of own won) Read))) T st
       run_own = run own won (λ n. absurd (n refl))
 
-      other : (s : ℕ) → seen.holder ≡ By s → s ≢ own → seen.holder ≢ By own
+      other : (s : ℕ) → seen.holder ≡ Some s → s ≢ own → seen.holder ≢ Some own
       other s h n z =
-          let d : By s ≡ By own = sym h ∙ z in
+          let d : Some s ≡ Some own = sym h ∙ z in
           n cc
 
-      own_won : (h : Holder) → E.done own ≡ true → seen.holder ≡ h → Won (st own) l won
-      own_won Free d h = marked won d (q.other (free_holds seen.holder own h))
-      own_won (By s) d h = by (ℕ_discrete s own)
+      own_won : (h : Option ℕ) → E.done own ≡ true → seen.holder ≡ h → Won (st own) l won
+      own_won None d h = marked won d (q.other (free_holds seen.holder own h))
+      own_won (Some s) d h = by (ℕ_discrete s own)
         where
           by : Dec (s ≡ own) → Won (st own) l won
-          by (yes z) = q.itself (h ∙ ap By z)
+          by (yes z) = q.itself (h ∙ ap Some z)
           by (no n) = marked won d (q.other (other s h n))
 
       held :
-          (s : ℕ) (b : Bool) → E.done own ≡ false → seen.holder ≡ By s → eqb s own ≡ b →
+          (s : ℕ) (b : Bool) → E.done own ≡ false → seen.holder ≡ Some s → eqb s own ≡ b →
           Ok K
           (on_to E i (E.worker i)
           (pick b (UnderWay (Point.Run (start_of own won) Read)) (UnderWay (Point.Run (start_of s seen.turn) Read))))
           T st
-      held s true d h z = run_own (q.itself (h ∙ ap By (eqb-true s own z)))
+      held s true d h z = run_own (q.itself (h ∙ ap Some (eqb-true s own z)))
       held s false d h z =
           run s seen.turn (λ n. unmarked won d (q.other (other s h (eqb-false s own z)))) (q.holder s h)
 
       go :
-          (b : Bool) (h : Holder) → E.done own ≡ b → seen.holder ≡ h →
+          (b : Bool) (h : Option ℕ) → E.done own ≡ b → seen.holder ≡ h →
           Ok K
           (on_to E i (E.worker i)
           (pick b (UnderWay (Point.Run (start_of own won) Read))
-          (on_holder h (Finished NotTaken)
+          (on_option h (Finished NotTaken)
           (λ s. pick (eqb s own) (UnderWay (Point.Run (start_of own won) Read)) (UnderWay (Point.Run (start_of s seen.turn) Read))))))
           T st
       go true h d z = run_own (own_won h d z)
-      go false Free d z =
+      go false None d z =
           ends K E T st o i (ReadMark seen won) e NotTaken (omega arith)
           ((mine_named K E T st o i (ReadMark seen won) e).absent
           (unmarked won d (q.other (free_holds seen.holder own z))))
-      go false (By s) d z = held s (eqb s own) d z refl
+      go false (Some s) d z = held s (eqb s own) d z refl

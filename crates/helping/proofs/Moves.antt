@@ -1,4 +1,5 @@
 -- Each step of a worker under way keeps the invariant.
+use Rattle.std.specs.Prelude.{None, Option, Some}
 use Prim.Native.Nat.{ℕ, suc}
 use native.Mathlib.Omega.{arith}
 use mathlib.Core.Path.{◌≡◌, refl, sym, subst}
@@ -7,8 +8,6 @@ use mathlib.Core.Bool.{Bool, true, false}
 use lib.Dec.{eqb}
 use borrow.Author.Tests.{eqb-true}
 use Rattle.parts.specs.Pick.{pick}
-use Rattle.parts.specs.declared.Holder.{Holder}
-use Rattle.parts.specs.declared.Holder.TheVariants.{Free, By}
 use Rattle.parts.specs.declared.LockWord.{LockWord}
 use Rattle.steps.specs.declared.Point.{Point}
 use Rattle.steps.specs.declared.Point.TheVariants.{Look, Grab, LookAgain, ReadMark}
@@ -32,7 +31,7 @@ use Rattle.helping.proofs.Releases.{release_ok}
 abbrev pub GrabWay : Tale → ℕ → ℕ → ℕ → ℕ → LockWord → LockWord → Tale → Type 0
 GrabWay T i l seen own x y U =
     ((y ≡ x) × (U ≡ T)) ⊎
-    ((x ≡ free_at seen) × (y ≡ record { turn = suc seen; holder = By own }) × (U ≡ win_tale T i l))
+    ((x ≡ free_at seen) × (y ≡ record { turn = suc seen; holder = Some own }) × (U ≡ win_tale T i l))
 
 pub grab_way :
     (T : Tale) (i l seen own : ℕ) (x : LockWord) → GrabWay T i l seen own x (machine_grab x seen own) (grab_tale T i l x seen)
@@ -40,18 +39,18 @@ unfolding machine_grab grab_tale
 grab_way T i l seen own x = way x.turn x.holder
   where
     way :
-        (t : ℕ) (h : Holder) →
+        (t : ℕ) (h : Option ℕ) →
         GrabWay T i l seen own (record { turn = t; holder = h }) (machine_grab (record { turn = t; holder = h }) seen own)
         (grab_tale T i l (record { turn = t; holder = h }) seen)
-    way t Free = go (eqb t seen) refl
+    way t None = go (eqb t seen) refl
       where
         go :
             (b : Bool) → eqb t seen ≡ b →
-            GrabWay T i l seen own (free_at t) (pick b (record { turn = suc seen; holder = By own }) (free_at t))
+            GrabWay T i l seen own (free_at t) (pick b (record { turn = suc seen; holder = Some own }) (free_at t))
             (pick b (win_tale T i l) T)
         go true z = inr (λ i. free_at (eqb-true t seen z i), refl, refl)
         go false z = inl (refl, refl)
-    way t (By s) = inl (refl, refl)
+    way t (Some s) = inl (refl, refl)
 
 module _ (K : Rules) (E : Scene) (T : Tale) (st : ℕ → Status) (o : Ok K E T st) (i : ℕ) where
   abbrev k : Worker

@@ -1,4 +1,5 @@
 -- Every number stays in its range: what keeps the engine's numbers from wrapping, and its indices inside their arrays.
+use Rattle.std.specs.Prelude.{None, Option, Some}
 use Prim.Native.Nat.{ℕ, ◌+◌, ◌*◌, ◌-◌, ◌≤◌, ◌<◌}
 use native.Mathlib.Omega.{arith}
 use native.Mathlib.Nat.{mul-le-mul_left}
@@ -7,8 +8,6 @@ use mathlib.Core.Logic.{◌≢◌}
 use mathlib.Core.List.{List}
 use lib.ListN.{length}
 use Rattle.parts.specs.Numbers.{try_steps}
-use Rattle.parts.specs.declared.Holder.{Holder}
-use Rattle.parts.specs.declared.Holder.TheVariants.{Free, By}
 use Rattle.parts.specs.declared.Instr.{Instr}
 use Rattle.steps.specs.declared.Point.{Point}
 use Rattle.steps.specs.declared.Point.TheVariants.{Look, Grab, LookAgain, ReadMark}
@@ -102,11 +101,11 @@ ranged_count :
 ranged_count K E T st o q below = go (E.lock (K.guard q)).holder refl (o.lock (K.guard q))
   where
     go :
-        (h : Holder) → (E.lock (K.guard q)).holder ≡ h → LockOk K E.word T st (K.guard q) (E.lock (K.guard q)).turn h →
+        (h : Option ℕ) → (E.lock (K.guard q)).holder ≡ h → LockOk K E.word T st (K.guard q) (E.lock (K.guard q)).turn h →
         (E.word q).count ≤ (K.most - 1) * K.last
-    go Free e f =
+    go None e f =
         omega (arith, f.counts q (below, refl), mul-le-mul_left (K.most - 1) f.early)
-    go (By s) e h =
+    go (Some s) e h =
         omega (arith, held_counts K E T st o (K.guard q) s e q (below, refl), mul-le-mul_left (K.most - 1) h.early)
 
 pub ranged : (K : Rules) (E : Scene) (T : Tale) (st : ℕ → Status) → Ok K E T st → Ranged K E

@@ -1,4 +1,5 @@
 -- The release: what a worker is about to tell is right, and its lock is free if this sheet still held it.
+use Rattle.std.specs.Prelude.{None, Option, Some}
 use Prim.Native.Nat.{ℕ}
 use native.Mathlib.Omega.{arith}
 use mathlib.Core.Path.{◌≡◌, refl, sym, ap, ◌∙◌, subst}
@@ -9,8 +10,6 @@ use lib.Dec.{eqb}
 use borrow.Author.Tests.{eqb-true, eqb-false}
 use Rattle.parts.specs.Pick.{pick}
 use Rattle.parts.specs.declared.Answer.TheVariants.{RanYes, RanNo, NotTaken}
-use Rattle.parts.specs.declared.Holder.{Holder}
-use Rattle.parts.specs.declared.Holder.TheVariants.{Free, By}
 use Rattle.parts.specs.declared.Instr.{Instr}
 use Rattle.parts.specs.declared.LockWord.{LockWord}
 use Rattle.steps.specs.Try.{answer_of}
@@ -31,27 +30,27 @@ use Rattle.helping.proofs.Frees.{over_of, free_at, frees}
 use Rattle.helping.proofs.Looks.{mine, mine_named, ends}
 use Rattle.helping.proofs.Runs.{lock_self}
 
-abbrev at : ℕ → Holder → LockWord
+abbrev at : ℕ → Option ℕ → LockWord
 at t h = record { turn = t; holder = h }
 
 -- a release leaves the lock word x, or frees it where it names this sheet at this turn; y is what it becomes
 abbrev ReleaseWay : LockWord → LockWord → ℕ → ℕ → Type 0
-ReleaseWay x y won s = (y ≡ x) ⊎ ((x ≡ at won (By s)) × (y ≡ free_at won))
+ReleaseWay x y won s = (y ≡ x) ⊎ ((x ≡ at won (Some s)) × (y ≡ free_at won))
 
 release_way : (x : LockWord) (won s : ℕ) → ReleaseWay x (machine_release x won s) won s
 unfolding machine_release
 release_way x won s = way x.turn x.holder
   where
-    way : (t : ℕ) (h : Holder) → ReleaseWay (at t h) (machine_release (at t h) won s) won s
-    way t Free = inl refl
-    way t (By a) = go (eqb a s) (eqb t won) refl refl
+    way : (t : ℕ) (h : Option ℕ) → ReleaseWay (at t h) (machine_release (at t h) won s) won s
+    way t None = inl refl
+    way t (Some a) = go (eqb a s) (eqb t won) refl refl
       where
         go :
             (b c : Bool) → eqb a s ≡ b → eqb t won ≡ c →
-            ReleaseWay (at t (By a)) (pick b (pick c (free_at t) (at t (By a))) (at t (By a))) won s
+            ReleaseWay (at t (Some a)) (pick b (pick c (free_at t) (at t (Some a))) (at t (Some a))) won s
         go true true y z =
             inr
-            (λ i. at (eqb-true t won z i) (By (eqb-true a s y i)), λ i. free_at (eqb-true t won z i))
+            (λ i. at (eqb-true t won z i) (Some (eqb-true a s y i)), λ i. free_at (eqb-true t won z i))
         go true false y z = inl refl
         go false c y z = inl refl
 

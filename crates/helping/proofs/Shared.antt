@@ -1,9 +1,9 @@
 -- A run of the sheet that holds a lock makes a step: the words and the sheet's log change, and the invariant stays.
+use Rattle.std.specs.Prelude.{None}
 use Prim.Native.Nat.{ℕ}
 use native.Mathlib.Omega.{arith}
 use mathlib.Core.Path.{◌≡◌, refl, sym, ◌∙◌, subst}
 use mathlib.Core.Logic.{◌≢◌}
-use Rattle.parts.specs.declared.Holder.TheVariants.{Free}
 use Rattle.helping.specs.Machine.{Rules, Scene, Shared, Tale, put, shared_of, set_shared}
 use Rattle.helping.specs.Ideal.{Guarded, Inv, Moved}
 use Rattle.helping.specs.Ok.{current, Status, View, view_of, shared_at, SheetOk, Ok}
@@ -45,7 +45,7 @@ module _ (K : Rules) (E : Scene) (T : Tale) (st : ℕ → Status) (o : Ok K E T 
       }
 
   -- the words of a free lock stay
-  free_word : (l : ℕ) → (E.lock l).holder ≡ Free → (q : ℕ) → Guarded K l q → x.word q ≡ E.word q
+  free_word : (l : ℕ) → (E.lock l).holder ≡ None → (q : ℕ) → Guarded K l q → x.word q ≡ E.word q
   free_word l e q g =
       tc.words q
       (λ (h : Guarded K (st s).job.lock q).

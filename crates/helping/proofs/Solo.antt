@@ -1,5 +1,6 @@
 -- A worker stepped alone on a free lock below its last turn: it wins, runs its own job to its end and lets go. Nothing changes but itself,
 -- its sheet, the lock, and the words that the lock guards.
+use Rattle.std.specs.Prelude.{None, Option, Some}
 use Prim.Native.Nat.{ℕ, zero, suc, ◌+◌, ◌≤◌}
 use native.Mathlib.Omega.{arith}
 use borrow.Author.Tests.{eq-eqb, ne_eqb}
@@ -10,9 +11,6 @@ use mathlib.Core.Path.{◌≡◌, refl, sym, ap, ◌∙◌, subst}
 use Rattle.parts.specs.Numbers.{longest_run, try_steps}
 use Rattle.parts.specs.Pick.{pick}
 use Rattle.parts.specs.declared.Answer.TheVariants.{RanYes, RanNo}
-use Rattle.parts.specs.declared.Fill.{Fill}
-use Rattle.parts.specs.declared.Fill.TheVariants.{Empty}
-use Rattle.parts.specs.declared.Holder.TheVariants.{Free, By}
 use Rattle.parts.specs.declared.Instr.{Instr}
 use Rattle.parts.specs.declared.LockWord.{LockWord}
 use Rattle.parts.specs.declared.Reading.{Reading}
@@ -49,7 +47,7 @@ pub record Ran (K : Rules) (J : Job) (E D : Scene) (i turn : ℕ) : Type 0 where
   pub said : Bool
   pub halts : act_in J n ≡ fin said
   pub answer : (D.worker i).state ≡ Finished (pick said RanYes RanNo)
-  pub lock : D.lock J.lock ≡ record { turn = turn; holder = Free }
+  pub lock : D.lock J.lock ≡ record { turn = turn; holder = None }
   pub words : (q : ℕ) → Guarded K J.lock q → D.word q ≡ (ideal_of J n).words q
   pub beside : Beside K E D i J.lock
 
@@ -84,7 +82,7 @@ module _ (K : Rules) (J : Job) (f : FineJob K J) (E₀ : Scene) (i s t : ℕ) wh
     state : (E.worker i).state ≡ UnderWay (Point.Run r at)
     lock : (E.worker i).lock ≡ l
     own : (E.worker i).own ≡ s
-    held : E.lock l ≡ record { turn = t; holder = By s }
+    held : E.lock l ≡ record { turn = t; holder = Some s }
     code : E.program s ≡ J.code
     sheet : r.sheet ≡ s
     won : r.won ≡ t
@@ -94,7 +92,7 @@ module _ (K : Rules) (J : Job) (f : FineJob K J) (E₀ : Scene) (i s t : ℕ) wh
     beside : Beside K E₀ E i l
 
   -- the last step: release
-  released : machine_release (record { turn = t; holder = By s }) t s ≡ record { turn = t; holder = Free }
+  released : machine_release (record { turn = t; holder = Some s }) t s ≡ record { turn = t; holder = None }
   unfolding machine_release
   released = rw (eq-eqb s s refl, eq-eqb t t refl)
 
@@ -108,8 +106,8 @@ module _ (K : Rules) (J : Job) (f : FineJob K J) (E₀ : Scene) (i s t : ℕ) wh
       let D = step_at K E i (E.worker i) (Point.Run r (Release said)) in
       let ends : (D.worker i).state ≡ Finished (pick said RanYes RanNo) =
       ap (λ (k : Worker). k.state) (put_same E.worker i _) ∙ ap Finished (told r (E.worker i).own said o.sheet o.own) in
-      let free : D.lock l ≡ record { turn = t; holder = Free } =
-      subst (λ (m : ℕ). put E.lock m (machine_release (E.lock m) r.won r.sheet) l ≡ record { turn = t; holder = Free })
+      let free : D.lock l ≡ record { turn = t; holder = None } =
+      subst (λ (m : ℕ). put E.lock m (machine_release (E.lock m) r.won r.sheet) l ≡ record { turn = t; holder = None })
       (sym o.lock) (put_same E.lock l _ ∙ (λ j. machine_release (o.held j) (o.won j) (o.sheet j)) ∙ released) in
       let halted = o.stands.inn.2 in
       step_first n E (Point.Run r (Release said)) o.state
@@ -222,7 +220,7 @@ module _ (K : Rules) (J : Job) (f : FineJob K J) (E₀ : Scene) (i s t : ℕ) wh
     word : E.lock l ≡ x
     code : E.program s ≡ J.code
     done : E.done s ≡ false
-    log : (p : ℕ) → E.log s p ≡ Empty
+    log : (p : ℕ) → E.log s p ≡ None
     words : (q : ℕ) → Guarded K l q → E.word q ≡ J.words q
     beside : Beside K E₀ E i l
 
@@ -255,10 +253,10 @@ module _ (K : Rules) (J : Job) (f : FineJob K J) (E₀ : Scene) (i s t : ℕ) wh
   -- the four steps up to its run, from a free lock word
   module _ (seen : ℕ) (below : seen ≢ K.last) (turned : suc seen ≡ t) where
     abbrev free : LockWord
-    free = record { turn = seen; holder = Free }
+    free = record { turn = seen; holder = None }
 
     abbrev taken : LockWord
-    taken = record { turn = t; holder = By s }
+    taken = record { turn = t; holder = Some s }
 
     look_on : look_to K.last free ≡ UnderWay (Grab seen)
     unfolding look_to
@@ -339,7 +337,7 @@ module _ (K : Rules) (J : Job) (f : FineJob K J) (E₀ : Scene) (i s t : ℕ) wh
 -- a begin on a free lock, and then the worker alone: it runs its job on the words as they were
 pub runs_alone :
     (K : Rules) (E : Scene) (i l s seen : ℕ) (code : List Instr) (words : ℕ → Reading) → Fine K l code → seen ≢ K.last →
-    E.lock l ≡ record { turn = seen; holder = Free } → ((q : ℕ) → Guarded K l q → E.word q ≡ words q) →
+    E.lock l ≡ record { turn = seen; holder = None } → ((q : ℕ) → Guarded K l q → E.word q ≡ words q) →
     Ran K (record { code = code; lock = l; words = words }) E (alone_steps K i (try_steps K.most) (machine_begun E i l code s)) i
     (suc seen)
 runs_alone K E i l s seen code words f below lock same =
@@ -352,7 +350,7 @@ runs_alone K E i l s seen code words f below lock same =
       word = lock;
       code = put_same E.program s code;
       done = put_same E.done s false;
-      log = λ p. ap (λ (g : ℕ → Fill). g p) (put_same E.log s (λ p. Empty));
+      log = λ p. ap (λ (g : ℕ → Option Reading). g p) (put_same E.log s (λ p. None));
       words = same;
       beside = record { workers = λ j n. put_other E.worker i _ j n; locks = λ m n. refl; words = λ q n. refl };
     }))

@@ -1,12 +1,10 @@
 -- A sheet that a change spares: what is said of it, and of its runs, stays. So a change is proved at the sheet that it touches.
+use Rattle.std.specs.Prelude.{None, Option, Some}
 use Prim.Native.Nat.{ℕ, ◌≤◌}
 use native.Mathlib.Nat.{le_refl, le_trans}
 use native.Mathlib.Omega.{arith}
 use mathlib.Core.Path.{◌≡◌, refl, sym, ap, ◌∙◌, subst}
 use mathlib.Core.Logic.{◌⊎◌, ◌≢◌}
-use Rattle.parts.specs.declared.Fill.{Fill}
-use Rattle.parts.specs.declared.Fill.TheVariants.{Empty, Filled}
-use Rattle.parts.specs.declared.Holder.TheVariants.{By}
 use Rattle.parts.specs.declared.LockWord.{LockWord}
 use Rattle.helping.specs.Machine.{Rules, target}
 use Rattle.helping.specs.Ideal.{Job, ideal_of, act_in, Touches, met_in, logged_in, Guarded, FineJob, Inv, Old, Moved}
@@ -16,6 +14,7 @@ use Rattle.helping.proofs.Run.{logs}
 use Rattle.helping.proofs.Inside.{names_in}
 use Rattle.helping.proofs.Stale.{entered}
 use Rattle.helping.proofs.Frame.{Passed}
+use Rattle.parts.specs.declared.Reading.{Reading}
 
 -- a sheet of which only words change: those of other locks while it holds its own, and no count falls
 pub record Spared (K : Rules) (v v' : View) (lock lock' : ℕ → LockWord) (s : ℕ) : Type 0 where
@@ -38,14 +37,14 @@ module _ (K : Rules) (v v' : View) (lock lock' : ℕ → LockWord) (s : ℕ) (c 
 
   -- its entries are what they were
   entry_spared : (J : Job) (j : ℕ) → logged_in J (shared_at v' s) j ≡ logged_in J (shared_at v s) j
-  entry_spared J j = ap (λ (f : ℕ → Fill). f (ideal_of J j).place) c.log
+  entry_spared J j = ap (λ (f : ℕ → Option Reading). f (ideal_of J j).place) c.log
 
   spared_at : (κ : Kind) → (v.st s).kind ≡ κ → SheetOk K v lock s κ → SheetOk K v' lock' s κ
-  spared_at unwon e q = (c.done ∙ q.0, λ p. ap (λ (f : ℕ → Fill). f p) c.log ∙ q.1 p)
+  spared_at unwon e q = (c.done ∙ q.0, λ p. ap (λ (f : ℕ → Option Reading). f p) c.log ∙ q.1 p)
   spared_at current e q =
       let J : Job = (v.st s).job in (
         on_spared q.0,
-        subst (λ (σ : Status). lock' σ.job.lock ≡ record { turn = σ.turn; holder = By s }) (sym c.st)
+        subst (λ (σ : Status). lock' σ.job.lock ≡ record { turn = σ.turn; holder = Some s }) (sym c.st)
             (c.holds e ∙ q.1),
         subst (λ (σ : Status). Inv K σ.job σ.front (shared_at v' s)) (sym c.st)
             (record {
@@ -53,10 +52,10 @@ module _ (K : Rules) (v v' : View) (lock lock' : ℕ → LockWord) (s : ℕ) (c 
               past = λ j h m. entry_spared J j ∙ q.2.past j h m;
               here =
                   λ m.
-                  subst (λ (x : Fill). (x ≡ Empty) ⊎ (x ≡ Filled (met_in J (v.st s).front)))
+                  subst (λ (x : Option Reading). (x ≡ None) ⊎ (x ≡ Some (met_in J (v.st s).front)))
                   (sym (entry_spared J (v.st s).front))
                   (q.2.here m);
-              later = λ p h. ap (λ (f : ℕ → Fill). f p) c.log ∙ q.2.later p h;
+              later = λ p h. ap (λ (f : ℕ → Option Reading). f p) c.log ∙ q.2.later p h;
             }),
       )
   spared_at past e q =
@@ -79,7 +78,7 @@ module _ (K : Rules) (v v' : View) (lock lock' : ℕ → LockWord) (s : ℕ) (c 
   -- a word of which a run of the sheet has to write yet is what it was
   still_at :
       (κ : Kind) → (v.st s).kind ≡ κ → SheetOk K v lock s κ → (v.st s).kind ≢ unwon → (j : ℕ) → j ≤ (v.st s).front →
-      Touches (act_in (v.st s).job j) → logged_in (v.st s).job (shared_at v' s) j ≡ Empty →
+      Touches (act_in (v.st s).job j) → logged_in (v.st s).job (shared_at v' s) j ≡ None →
       v'.word (target (act_in (v.st s).job j)) ≡ v.word (target (act_in (v.st s).job j))
   still_at unwon e q n j h m z = absurd (n e)
   still_at current e q n j h m z =
@@ -88,7 +87,7 @@ module _ (K : Rules) (v v' : View) (lock lock' : ℕ → LockWord) (s : ℕ) (c 
       (names_in K J q.0.fine j m)
   still_at past e q n j h m z =
       let J : Job = (v.st s).job in
-      let y : Empty ≡ Filled (met_in J j) =
+      let y : None ≡ Some (met_in J j) =
       sym z ∙ entry_spared J j ∙ entered K J (v.st s).front (shared_at v s) q.1 j h (logs (act_in J j) m) in
       cc
 

@@ -1,12 +1,11 @@
 -- A run of a sheet that has let go of its lock changes no word and no log entry: late helpers are harmless (their mark: Marks; their
 -- release: Releases).
+use Rattle.std.specs.Prelude.{Option, Some}
 use Prim.Native.Nat.{ℕ, suc, ◌≤◌, ◌<◌}
 use mathlib.Core.Path.{◌≡◌, refl, sym, ap, ◌∙◌, subst}
 use mathlib.Core.Logic.{⊎_elim}
 use native.Mathlib.Nat.{eq-or-lt_of_le, le_trans}
 use native.Mathlib.Omega.{arith}
-use Rattle.parts.specs.declared.Fill.{Fill}
-use Rattle.parts.specs.declared.Fill.TheVariants.{Filled}
 use Rattle.parts.specs.declared.Follows.{Follows}
 use Rattle.parts.specs.declared.Follows.TheVariants as follows
 use Rattle.parts.specs.declared.Reading.{Reading}
@@ -31,7 +30,7 @@ module _ (K : Rules) (J : Job) (n : ℕ) (x : Shared) (o : Old K J n x) (j : ℕ
       ⊎_elim (λ (z : j ≡ n). absurd (d (subst P (ap (act_in J) z ∙ o.halts) p))) (λ (z : j < n). z) (eq-or-lt_of_le h)
 
   -- its entries up to the halt are filled
-  pub entered : Logs (act_in J j) → logged_in J x j ≡ Filled (met_in J j)
+  pub entered : Logs (act_in J j) → logged_in J x j ≡ Some (met_in J j)
   entered t = o.past j (before Logs t (λ e. e)) t
 
   read_still :
@@ -73,15 +72,15 @@ module _ (K : Rules) (J : Job) (n : ℕ) (x : Shared) (o : Old K J n x) (j : ℕ
   commit_still r u at p t (fin said) e = absurd (subst Logs e t)
   commit_still r u at p t (go rs k) e = absurd (subst Logs e t)
   commit_still r u at p t (touch w g) e =
-      let q : x.log r.place ≡ Filled (met_in J j) = ap x.log p ∙ entered t in
+      let q : x.log r.place ≡ Some (met_in J j) = ap x.log p ∙ entered t in
       subst
-      (λ (fill : Fill).
+      (λ (fill : Option Reading).
       Still J n x
-      (machine_follow (g (held_of fill u).value) (record { word = x.word; log = put x.log r.place (Filled (held_of fill u)) }) (machine_logged r)
+      (machine_follow (g (held_of fill u).value) (record { word = x.word; log = put x.log r.place (Some (held_of fill u)) }) (machine_logged r)
       (held_of fill u)))
       (sym q)
       (record {
-        same = ap (λ (l : ℕ → Fill). record { word = x.word; log = l }) (put_idle_lem x.log r.place _ (sym q));
+        same = ap (λ (l : ℕ → Option Reading). record { word = x.word; log = l }) (put_idle_lem x.log r.place _ (sym q));
         stands =
             follow_still (machine_logged r) (record { next = at.next; registers = at.registers }) (ap suc p) t _
             (subst (λ (a : Act). Follow a (met_in J j).value (g (met_in J j).value)) (sym e) refl);

@@ -1,4 +1,5 @@
 -- A worker takes a free lock for its own sheet, and its try joins the lock's list: the invariant stays.
+use Rattle.std.specs.Prelude.{Some}
 use Prim.Native.Nat.{ℕ, suc, ◌<◌}
 use native.Mathlib.Nat.{le_refl}
 use native.Mathlib.Omega.{arith}
@@ -6,7 +7,6 @@ use mathlib.Core.Path.{◌≡◌, refl, sym, ap, ◌∙◌, subst}
 use mathlib.Core.Logic.{inl, inr, ◌≢◌}
 use mathlib.Core.List.{[], ◌∷◌}
 use lib.ListN.{get_or}
-use Rattle.parts.specs.declared.Holder.TheVariants.{By}
 use Rattle.parts.specs.declared.LockWord.{LockWord}
 use Rattle.steps.specs.declared.Point.{Point}
 use Rattle.steps.specs.declared.Point.TheVariants.{LookAgain}
@@ -48,7 +48,7 @@ module _ (K : Rules) (E : Scene) (T : Tale) (st : ℕ → Status) (o : Ok K E T 
   won_status = record { kind = current; job = won_job; turn = suc t; front = 0 }
 
   abbrev held_word : LockWord
-  held_word = record { turn = suc t; holder = By own }
+  held_word = record { turn = suc t; holder = Some own }
 
   abbrev after : ℕ → Status
   after = put st own won_status

@@ -1,10 +1,8 @@
 -- The ideal run of a sheet that has won its lock: its program, alone, on the words as they were when it won. It fixes what every
 -- run of the sheet finds, and what its log entries hold.
-use Rattle.std.specs.Prelude.{ℕ, zero, suc, ◌+◌, ◌*◌, ◌-◌, ◌≤◌, ◌<◌, ◌≡◌, ◌⊎◌, Bool, List, length}
+use Rattle.std.specs.Prelude.{ℕ, zero, suc, ◌+◌, ◌*◌, ◌-◌, ◌≤◌, ◌<◌, ◌≡◌, ◌⊎◌, Bool, List, length, None, Option, Some}
 use Rattle.parts.specs.Instr.{on_follows}
 use Rattle.parts.specs.Parts.{registers0}
-use Rattle.parts.specs.declared.Fill.{Fill}
-use Rattle.parts.specs.declared.Fill.TheVariants.{Empty, Filled}
 use Rattle.parts.specs.declared.Follows.{Follows}
 use Rattle.parts.specs.declared.Follows.TheVariants as follows
 use Rattle.parts.specs.declared.Instr.{Instr}
@@ -78,7 +76,7 @@ Follow (fin said) v x = ⊥
 Follow (go rs n) v x = ⊥
 Follow (touch w f) v x = f v ≡ x
 
-abbrev pub logged_in : Job → Shared → ℕ → Fill
+abbrev pub logged_in : Job → Shared → ℕ → Option Reading
 logged_in J x n = x.log (ideal_of J n).place
 
 -- word q is one of the words, and lock l guards it
@@ -105,16 +103,16 @@ FineJob K J = Fine K J.lock J.code
 -- it met; that of n is empty or so filled; every place of the log after it is empty.
 pub record Inv (K : Rules) (J : Job) (n : ℕ) (x : Shared) : Type 0 where
   pub words : (q : ℕ) → Guarded K J.lock q → x.word q ≡ (ideal_of J n).words q
-  pub past : (j : ℕ) → j < n → Logs (act_in J j) → logged_in J x j ≡ Filled (met_in J j)
-  pub here : Logs (act_in J n) → (logged_in J x n ≡ Empty) ⊎ (logged_in J x n ≡ Filled (met_in J n))
-  pub later : (p : ℕ) → (ideal_of J (suc n)).place ≤ p → x.log p ≡ Empty
+  pub past : (j : ℕ) → j < n → Logs (act_in J j) → logged_in J x j ≡ Some (met_in J j)
+  pub here : Logs (act_in J n) → (logged_in J x n ≡ None) ⊎ (logged_in J x n ≡ Some (met_in J n))
+  pub later : (p : ℕ) → (ideal_of J (suc n)).place ≤ p → x.log p ≡ None
 
 -- Of a sheet that let go of its lock: the log is complete up to a halt at n, and the counts of the lock's words are at least what
 -- the job left, so that every late swap fails.
 pub record Old (K : Rules) (J : Job) (n : ℕ) (x : Shared) : Type 0 where
   pub said : Bool
   pub halts : act_in J n ≡ fin said
-  pub past : (j : ℕ) → j < n → Logs (act_in J j) → logged_in J x j ≡ Filled (met_in J j)
+  pub past : (j : ℕ) → j < n → Logs (act_in J j) → logged_in J x j ≡ Some (met_in J j)
   pub counts : (q : ℕ) → Guarded K J.lock q → ((ideal_of J n).words q).count ≤ (x.word q).count
 
 -- a run with the registers of the ideal run's instruction j, before it
@@ -128,10 +126,10 @@ abbrev pub In : Job → ℕ → Shared → Run → Stage → Type 0
 In J j x r Read = At J j r × (r.place ≡ (ideal_of J j).place)
 In J j x r (Commit u) =
     At J j r × (r.place ≡ (ideal_of J j).place) × Logs (act_in J j) ×
-    (Touches (act_in J j) → logged_in J x j ≡ Empty → u ≡ x.word (target (act_in J j)))
+    (Touches (act_in J j) → logged_in J x j ≡ None → u ≡ x.word (target (act_in J j)))
 In J j x r (Swap e new) =
     At J j r × (r.place ≡ suc (ideal_of J j).place) × Follow (act_in J j) (met_in J j).value (follows.Swap new) ×
-    (e ≡ met_in J j) × (logged_in J x j ≡ Filled (met_in J j))
+    (e ≡ met_in J j) × (logged_in J x j ≡ Some (met_in J j))
 In J j x r (Mark said) = At J j r × (r.place ≡ (ideal_of J j).place) × (act_in J j ≡ fin said)
 In J j x r (Release said) = At J j r × (r.place ≡ (ideal_of J j).place) × (act_in J j ≡ fin said)
 
@@ -143,10 +141,10 @@ pub record RunStands (J : Job) (n : ℕ) (x : Shared) (r : Run) (at : Stage) : T
 -- what a step may do to the shared state, as any other run of the sheet sees it
 pub record Moved (J : Job) (n : ℕ) (x : Shared) (n' : ℕ) (x' : Shared) : Type 0 where
   pub up : n ≤ n'
-  pub kept : (j : ℕ) → Logs (act_in J j) → logged_in J x' j ≡ Empty → logged_in J x j ≡ Empty
-  pub holds : (j : ℕ) (e : Reading) → Logs (act_in J j) → logged_in J x j ≡ Filled e → logged_in J x' j ≡ Filled e
+  pub kept : (j : ℕ) → Logs (act_in J j) → logged_in J x' j ≡ None → logged_in J x j ≡ None
+  pub holds : (j : ℕ) (e : Reading) → Logs (act_in J j) → logged_in J x j ≡ Some e → logged_in J x' j ≡ Some e
   pub still :
-      (j : ℕ) → j ≤ n → Touches (act_in J j) → logged_in J x' j ≡ Empty →
+      (j : ℕ) → j ≤ n → Touches (act_in J j) → logged_in J x' j ≡ None →
       x'.word (target (act_in J j)) ≡ x.word (target (act_in J j))
 
 -- after a step: the new frontier, the invariant there, and where the run stands

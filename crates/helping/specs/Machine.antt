@@ -1,14 +1,11 @@
 -- The machine of the theory: the engine of document 01 with any number of workers, locks, words and sheets, of which nothing has
 -- an end: no array, no remainder, no wrap. A worker, its point and its run are the engine's own; what it filled is not counted here.
-use Rattle.std.specs.Prelude.{ℕ, suc, ◌+◌, ◌≡◌, ◌≢◌, Bool, true, false, List, ◌∷◌, eqb, get_or}
+use Rattle.std.specs.Prelude.{ℕ, suc, ◌+◌, ◌≡◌, ◌≢◌, Bool, true, false, List, ◌∷◌, eqb, get_or, None, Option, Some}
 use Rattle.parts.specs.Instr.{asks_of, follows_of, on_asks, on_follows}
 use Rattle.parts.specs.Parts.{instr0}
-use Rattle.parts.specs.Pick.{pick, on_holder, on_fill}
+use Rattle.parts.specs.Pick.{pick, on_option}
 use Rattle.parts.specs.declared.Answer.TheVariants.{NotTaken, Worn}
-use Rattle.parts.specs.declared.Fill.{Fill}
-use Rattle.parts.specs.declared.Fill.TheVariants.{Empty, Filled}
 use Rattle.parts.specs.declared.Follows.{Follows}
-use Rattle.parts.specs.declared.Holder.TheVariants.{Free, By}
 use Rattle.parts.specs.declared.Instr.{Instr}
 use Rattle.parts.specs.declared.LockWord.{LockWord}
 use Rattle.parts.specs.declared.Reading.{Reading}
@@ -40,7 +37,7 @@ pub record Scene : Type 0 where
   pub lock : ℕ → LockWord
   pub program : ℕ → List Instr
   pub done : ℕ → Bool
-  pub log : ℕ → ℕ → Fill
+  pub log : ℕ → ℕ → Option Reading
   pub worker : ℕ → Worker
 
 -- f, but x at k
@@ -83,7 +80,7 @@ set_done E s =
 -- what a run of a sheet shares with the others of that sheet: the words, and the sheet's log
 pub record Shared : Type 0 where
   pub word : ℕ → Reading
-  pub log : ℕ → Fill
+  pub log : ℕ → Option Reading
 
 abbrev pub shared_of : Scene → ℕ → Shared
 shared_of E s = record { word = E.word; log = E.log s }
@@ -128,8 +125,8 @@ machine_logged r =
 
 -- "Commit: if the log entry at the place is empty it takes the value and count read; either way the worker goes on with what the
 -- entry holds"
-abbrev pub held_of : Fill → Reading → Reading
-held_of fill u = on_fill fill u (λ first. first)
+abbrev pub held_of : Option Reading → Reading → Reading
+held_of fill u = on_option fill u (λ first. first)
 
 -- "Swap: if the word's value and count equal the entry's, the word takes the new value and its count rises by one"
 unfoldable pub machine_swap : Reading → Reading → ℕ → Reading
@@ -164,7 +161,7 @@ machine_commit (fin said) x r u = record { shared = x; run = r; stage = Commit u
 machine_commit (go rs n) x r u = record { shared = x; run = r; stage = Commit u }
 machine_commit (touch w f) x r u =
     let e = held_of (x.log r.place) u in
-    machine_follow (f e.value) (record { word = x.word; log = put x.log r.place (Filled e) }) (machine_logged r) e
+    machine_follow (f e.value) (record { word = x.word; log = put x.log r.place (Some e) }) (machine_logged r) e
 
 unfoldable pub pace_of : List Instr → Shared → Run → Stage → Pace
 pace_of code x r Read = machine_read (act_at code r.next r.registers) x r
@@ -186,23 +183,23 @@ machine_moved k s = record { state = s; lock = k.lock; own = k.own; steps = suc 
 -- "2. Grab", "7. Release"
 unfoldable pub machine_grab : LockWord → ℕ → ℕ → LockWord
 machine_grab l seen own =
-    on_holder l.holder (pick (eqb l.turn seen) (record { turn = suc seen; holder = By own }) l) (λ s. l)
+    on_option l.holder (pick (eqb l.turn seen) (record { turn = suc seen; holder = Some own }) l) (λ s. l)
 
 unfoldable pub machine_release : LockWord → ℕ → ℕ → LockWord
 machine_release l won sheet =
-    on_holder l.holder l
-    (λ s. pick (eqb s sheet) (pick (eqb l.turn won) (record { turn = l.turn; holder = Free }) l) l)
+    on_option l.holder l
+    (λ s. pick (eqb s sheet) (pick (eqb l.turn won) (record { turn = l.turn; holder = None }) l) l)
 
 -- "1. Look": where it leads; "4. Read own done mark": where it leads
 unfoldable pub look_to : ℕ → LockWord → State
 look_to last l =
-    on_holder l.holder (pick (eqb l.turn last) (Finished Worn) (UnderWay (Grab l.turn)))
+    on_option l.holder (pick (eqb l.turn last) (Finished Worn) (UnderWay (Grab l.turn)))
     (λ s. UnderWay (Point.Run (start_of s l.turn) Read))
 
 unfoldable pub mark_to : Bool → LockWord → ℕ → ℕ → State
 mark_to done seen won own =
     pick done (UnderWay (Point.Run (start_of own won) Read))
-    (on_holder seen.holder (Finished NotTaken)
+    (on_option seen.holder (Finished NotTaken)
     (λ s. pick (eqb s own) (UnderWay (Point.Run (start_of own won) Read)) (UnderWay (Point.Run (start_of s seen.turn) Read))))
 
 -- worker i, which is k, goes on in this state
@@ -233,9 +230,9 @@ step_at K E i k (Point.Run r (Release said)) =
 -- a sheet that begin may take: "It is in use while a held lock names it, or a worker under way has it as its own or as the one it
 -- helps."
 pub record Unused (E : Scene) (s : ℕ) : Type 0 where
-  pub named : (l : ℕ) → (E.lock l).holder ≢ By s
+  pub named : (l : ℕ) → (E.lock l).holder ≢ Some s
   pub owned : (i : ℕ) (p : Point) → (E.worker i).state ≡ UnderWay p → (E.worker i).own ≢ s
-  pub helped : (i : ℕ) (p : Point) → (E.worker i).state ≡ UnderWay p → helped_of p ≢ By s
+  pub helped : (i : ℕ) (p : Point) → (E.worker i).state ≡ UnderWay p → helped_of p ≢ Some s
 
 -- "Begin (worker, lock, job record) takes a sheet, copies the job, empties the log, clears the mark."
 abbrev pub machine_begun : Scene → ℕ → ℕ → List Instr → ℕ → Scene
@@ -245,7 +242,7 @@ machine_begun E i l code s =
       lock = E.lock;
       program = put E.program s code;
       done = put E.done s false;
-      log = put E.log s (λ p. Empty);
+      log = put E.log s (λ p. None);
       worker = put E.worker i (looking_of l s);
     }
 
@@ -277,7 +274,7 @@ win_tale T i l = with_won T (put T.won l (T.tries i ∷ T.won l))
 
 -- a grab that takes the lock wins it
 unfoldable pub grab_tale : Tale → ℕ → ℕ → LockWord → ℕ → Tale
-grab_tale T i l x seen = on_holder x.holder (pick (eqb x.turn seen) (win_tale T i l) T) (λ s. T)
+grab_tale T i l x seen = on_option x.holder (pick (eqb x.turn seen) (win_tale T i l) T) (λ s. T)
 
 unfoldable pub step_tale : Tale → Scene → ℕ → Worker → Point → Tale
 step_tale T E i k Look = T

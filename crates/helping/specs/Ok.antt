@@ -1,12 +1,8 @@
 -- The invariant of the machine, over all histories.
-use Rattle.std.specs.Prelude.{ℕ, zero, suc, ◌+◌, ◌*◌, ◌-◌, ◌≤◌, ◌<◌, ◌≡◌, ◌⊎◌, ◌≢◌, Bool, true, false, List, [], ◌∷◌, ◌++◌, length, get_or}
+use Rattle.std.specs.Prelude.{ℕ, zero, suc, ◌+◌, ◌*◌, ◌-◌, ◌≤◌, ◌<◌, ◌≡◌, ◌⊎◌, ◌≢◌, Bool, true, false, List, [], ◌∷◌, ◌++◌, length, get_or, None, Option, Some}
 use Rattle.parts.specs.Numbers.{longest_run, try_steps}
 use Rattle.parts.specs.declared.Answer.{Answer}
 use Rattle.parts.specs.declared.Answer.TheVariants.{RanYes, RanNo, NotTaken, Worn}
-use Rattle.parts.specs.declared.Fill.{Fill}
-use Rattle.parts.specs.declared.Fill.TheVariants.{Empty}
-use Rattle.parts.specs.declared.Holder.{Holder}
-use Rattle.parts.specs.declared.Holder.TheVariants.{Free, By}
 use Rattle.parts.specs.declared.Instr.{Instr}
 use Rattle.parts.specs.declared.LockWord.{LockWord}
 use Rattle.parts.specs.declared.Reading.{Reading}
@@ -43,7 +39,7 @@ pub record View : Type 0 where
   pub word : ℕ → Reading
   pub program : ℕ → List Instr
   pub done : ℕ → Bool
-  pub log : ℕ → ℕ → Fill
+  pub log : ℕ → ℕ → Option Reading
 
 abbrev pub view_of : Scene → (ℕ → Status) → View
 view_of E st = record { st = st; word = E.word; program = E.program; done = E.done; log = E.log }
@@ -56,9 +52,9 @@ pub record OnSheet (K : Rules) (v : View) (s : ℕ) : Type 0 where
   pub fine : FineJob K (v.st s).job
 
 abbrev pub SheetOk : Rules → View → (ℕ → LockWord) → ℕ → Kind → Type 0
-SheetOk K v lock s unwon = (v.done s ≡ false) × ((p : ℕ) → v.log s p ≡ Empty)
+SheetOk K v lock s unwon = (v.done s ≡ false) × ((p : ℕ) → v.log s p ≡ None)
 SheetOk K v lock s current =
-    OnSheet K v s × (lock (v.st s).job.lock ≡ record { turn = (v.st s).turn; holder = By s }) ×
+    OnSheet K v s × (lock (v.st s).job.lock ≡ record { turn = (v.st s).turn; holder = Some s }) ×
     Inv K (v.st s).job (v.st s).front (shared_at v s)
 SheetOk K v lock s past =
     OnSheet K v s × Old K (v.st s).job (v.st s).front (shared_at v s) × (v.done s ≡ true)
@@ -79,9 +75,9 @@ pub record RunOk (v : View) (own l : ℕ) (r : Run) : Type 0 where
 
 -- between looking again, which saw this lock word, and reading the own mark
 pub record MarkOk (v : View) (own l : ℕ) (seen : LockWord) (won : ℕ) : Type 0 where
-  pub holder : (s : ℕ) → seen.holder ≡ By s → Won (v.st s) l seen.turn
-  pub itself : seen.holder ≡ By own → Won (v.st own) l won
-  pub other : seen.holder ≢ By own → Lost (v.st own) l won
+  pub holder : (s : ℕ) → seen.holder ≡ Some s → Won (v.st s) l seen.turn
+  pub itself : seen.holder ≡ Some own → Won (v.st own) l won
+  pub other : seen.holder ≢ Some own → Lost (v.st own) l won
 
 abbrev pub RunsAt : View → ℕ → ℕ → Run → Stage → Type 0
 RunsAt v own l r at =
@@ -139,9 +135,9 @@ pub record HeldOk (K : Rules) (T : Tale) (σ : Status) (l turn : ℕ) : Type 0 w
   pub from : JobBegins K σ.job earlier
   pub counts : (q : ℕ) → Guarded K l q → (σ.job.words q).count + (K.most - 1) ≤ (K.most - 1) * turn
 
-abbrev pub LockOk : Rules → (ℕ → Reading) → Tale → (ℕ → Status) → ℕ → ℕ → Holder → Type 0
-LockOk K word T st l turn Free = FreeOk K word T l turn
-LockOk K word T st l turn (By s) = HeldOk K T (st s) l turn
+abbrev pub LockOk : Rules → (ℕ → Reading) → Tale → (ℕ → Status) → ℕ → ℕ → Option ℕ → Type 0
+LockOk K word T st l turn None = FreeOk K word T l turn
+LockOk K word T st l turn (Some s) = HeldOk K T (st s) l turn
 
 -- a try stands in a list, and what is said of those before it
 pub record Listed (P : List Try → Type 0) (t : Try) (ts : List Try) : Type 0 where
@@ -205,11 +201,11 @@ pub record Next (K : Rules) (E : Scene) (T : Tale) : Type 0 where
 -- a fresh setup
 pub record Fresh (K : Rules) (E : Scene) : Type 0 where
   pub idle : (i : ℕ) → E.worker i ≡ worker0
-  pub free : (l : ℕ) → ((E.lock l).holder ≡ Free) × ((E.lock l).turn ≤ K.last)
+  pub free : (l : ℕ) → ((E.lock l).holder ≡ None) × ((E.lock l).turn ≤ K.last)
   pub value : (q : ℕ) → (E.word q).value ≡ get_or K.values q 0
   pub count : (q : ℕ) → (E.word q).count ≡ 0
   pub unmarked : (s : ℕ) → E.done s ≡ false
-  pub empty : (s p : ℕ) → E.log s p ≡ Empty
+  pub empty : (s p : ℕ) → E.log s p ≡ None
 
 abbrev pub untold : Tale
 untold = record { begins = 0; tries = λ i. record { number = 0; lock = 0; program = [] }; won = λ l. [] }

@@ -4,7 +4,7 @@ mod Names
 use Names.*
 use Rattle.parts.specs.Numbers.{instructions}
 use Rattle.parts.specs.Parts.{entry0}
-use Rattle.parts.specs.Pick.{pick, on_fill}
+use Rattle.parts.specs.Pick.{pick, on_option}
 use Rattle.alone.specs.Jobs.{Try}
 use Rattle.engine.specs.Calls.{collect_of}
 use Rattle.engine.specs.State.{worker_at, base_of}
@@ -28,7 +28,7 @@ sum_of (suc n) f = f n + sum_of n f
 
 -- the filled entries of sheet s's log
 abbrev pub filled_entries : Engine → ℕ → ℕ
-filled_entries e s = sum_of instructions (λ p. on_fill (get_or e.entry (base_of s + p) entry0).fill 0 (λ what. 1))
+filled_entries e s = sum_of instructions (λ p. on_option (get_or e.entry (base_of s + p) entry0).fill 0 (λ what. 1))
 
 -- how many entries try n filled
 abbrev pub number_of : Sofar → ℕ → ℕ
@@ -38,7 +38,7 @@ pub record Shares (x : Sofar) : Type 0 where
   -- "Prove it equal to that worker's fillings in the history since its begin": by the try, which every begin makes anew; now and at
   -- every later cut
   pub told :
-      (w : ℕ) (a : Answer) (n m : ℕ) → (collect_of x.state w).told ≡ CollectTold.Answered a n m → (more : List Call) → AllRecords more →
+      (w : ℕ) (a : Answer) (n m : ℕ) → (collect_of x.state w).told ≡ Ok (answered a n m) → (more : List Call) → AllRecords more →
       m ≡ number_of (follow x more) (x.tries w).number
   -- the worker's own count at every cut of its try; and what a drop now loses, at every later cut
   pub kept :

@@ -1,9 +1,7 @@
 -- Request 02, by what can be seen of the states: a step filled a log entry when the entry was empty before it and is filled after it.
-use Rattle.std.specs.Prelude.{ℕ, ◌+◌, List, [], ◌∷◌}
-use Rattle.parts.specs.Pick.{on_fill}
+use Rattle.std.specs.Prelude.{ℕ, ◌+◌, List, [], ◌∷◌, None, Option, Some}
+use Rattle.parts.specs.Pick.{on_option}
 use Rattle.parts.specs.declared.Entry.{Entry}
-use Rattle.parts.specs.declared.Holder.{Holder}
-use Rattle.parts.specs.declared.Holder.TheVariants.{Free, By}
 use Rattle.parts.specs.declared.Reading.{Reading}
 use Rattle.steps.specs.Places.{spot_of}
 use Rattle.steps.specs.Worker.{on_state}
@@ -26,8 +24,8 @@ unfoldable pub new_from : (ℕ → Reading → Filling) → ℕ → List Entry �
 new_from make n [] now = []
 new_from make n (x ∷ before) [] = []
 new_from make n (x ∷ before) (y ∷ now) =
-    on_fill x.fill
-    (on_fill y.fill (new_from make (n + 1) before now) (λ what. make n what ∷ new_from make (n + 1) before now))
+    on_option x.fill
+    (on_option y.fill (new_from make (n + 1) before now) (λ what. make n what ∷ new_from make (n + 1) before now))
     (λ first. new_from make (n + 1) before now)
 
 -- the number of the last of these tries, which stands first
@@ -36,14 +34,14 @@ latest [] = 0
 latest (t ∷ earlier) = t.number
 
 -- of a worker in this state: the sheet that it runs, its own or a helped one, and the instruction that it is at
-abbrev pub runs_sheet : State → Holder
-runs_sheet Idle = Free
-runs_sheet (UnderWay Look) = Free
-runs_sheet (UnderWay (Grab seen)) = Free
-runs_sheet (UnderWay (LookAgain won)) = Free
-runs_sheet (UnderWay (ReadMark seen won)) = Free
-runs_sheet (UnderWay (Point.Run r at)) = By r.sheet
-runs_sheet (Finished x) = Free
+abbrev pub runs_sheet : State → Option ℕ
+runs_sheet Idle = None
+runs_sheet (UnderWay Look) = None
+runs_sheet (UnderWay (Grab seen)) = None
+runs_sheet (UnderWay (LookAgain won)) = None
+runs_sheet (UnderWay (ReadMark seen won)) = None
+runs_sheet (UnderWay (Point.Run r at)) = Some r.sheet
+runs_sheet (Finished x) = None
 
 abbrev pub runs_at : State → ℕ
 runs_at s = on_state s 0 (λ p. (spot_of p 0).next) (λ x. 0)

@@ -64,7 +64,7 @@ began x w l rec e =
 -- "Grab. .. it becomes turn + 1, held by the worker's own sheet": a lock that was free before a step and is held after it, was won
 -- by the try of the worker that made the step
 abbrev pub won_by : LockWord → LockWord → Bool
-won_by before now = on_holder before.holder (on_holder now.holder false (λ s. true)) (λ s. false)
+won_by before now = on_option before.holder (on_option now.holder false (λ s. true)) (λ s. false)
 
 -- what worker w's step to state e filled: an entry's number tells its sheet, whose last owner's job it is
 abbrev pub filled_by : Sofar → ℕ → Engine → List Filling
@@ -81,7 +81,7 @@ filled_by x w e =
 
 -- worker w's next step is one of a run of job j
 abbrev pub runs_job : Sofar → ℕ → ℕ → Bool
-runs_job x w j = on_holder (runs_sheet (worker_at x.state w).state) false (λ s. eqb (latest (x.owners s)) j)
+runs_job x w j = on_option (runs_sheet (worker_at x.state w).state) false (λ s. eqb (latest (x.owners s)) j)
 
 -- what the Look of worker w's try found once its next step is made: the lock word before it where that is the first, else what it was
 abbrev pub found_by : Sofar → ℕ → LockWord
@@ -168,9 +168,9 @@ helped x w l rec = follow x (Begin w l rec ∷ steps 193 w)
 -- the begin is accepted; then the worker has finished, not taken, the lock is free at the same turn, and its words hold what all
 -- its jobs give
 pub record Completed (e₀ : Engine) (x : Sofar) (w l : ℕ) (rec : List ℕ) : Type 0 where
-  pub begun : (begin_of x.state w l rec).told ≡ Accepted
+  pub begun : (begin_of x.state w l rec).told ≡ Ok tt
   pub answer : (worker_at (helped x w l rec).state w).state ≡ Finished NotTaken
-  pub lock : lock_at (helped x w l rec).state l ≡ record { turn = (lock_at x.state l).turn; holder = Free }
+  pub lock : lock_at (helped x w l rec).state l ≡ record { turn = (lock_at x.state l).turn; holder = None }
   pub words : Hold e₀ (helped x w l rec).state l (given e₀ (helped x w l rec) (x.won l))
 
 -- try t stands in its lock's list, once, and in no other; alone, after those before it, its job answers this
@@ -184,7 +184,7 @@ pub record RanOnce (e₀ : Engine) (x : Sofar) (t : Try) (said : Bool) : Type 0 
 
 -- a worker under way: its next step is accepted, and leads on or to an answer
 pub record GoesOn (e : Engine) (w : ℕ) : Type 0 where
-  pub told : (step_of e w).told ≡ Accepted
+  pub told : (step_of e w).told ≡ Ok tt
   pub on : (worker_at (step_of e w).engine w).state ≢ Idle
 
 -- No remainder and no wrap of the definitions changes a number that is used. Of a run: its sheet, its instruction, its log place, where
@@ -235,22 +235,22 @@ pub record Uncut (e : Engine) : Type 0 where
 -- "Cut any sequence of calls from a valid setup anywhere, drops included.": what holds at the end of every history
 pub record Promised (e₀ : Engine) (x : Sofar) : Type 0 where
   -- "If it is free, its words are what those jobs give, run once each, alone, in that order."
-  pub free : (l : ℕ) → (lock_at x.state l).holder ≡ Free → Hold e₀ x.state l (given e₀ x (x.won l))
+  pub free : (l : ℕ) → (lock_at x.state l).holder ≡ None → Hold e₀ x.state l (given e₀ x (x.won l))
   -- "If it is held, they are what all but the last give and then some first part of the last"
-  pub held : (l s : ℕ) → (lock_at x.state l).holder ≡ By s → HeldWords e₀ x l s
+  pub held : (l s : ℕ) → (lock_at x.state l).holder ≡ Some s → HeldWords e₀ x l s
   -- "any worker that then begins a valid job there and is stepped alone completes the last one within 97 steps", 193 since request 04:
   -- every idle worker
   pub helping :
-      (l s : ℕ) → (lock_at x.state l).holder ≡ By s → (w : ℕ) (rec : List ℕ) → w < workers →
+      (l s : ℕ) → (lock_at x.state l).holder ≡ Some s → (w : ℕ) (rec : List ℕ) → w < workers →
       (worker_at x.state w).state ≡ Idle → AllBytes rec →
-      job_told rec l (guards_of (words_of x.state)) ≡ Accepted → Completed e₀ x w l rec
+      job_told rec l (guards_of (words_of x.state)) ≡ Ok tt → Completed e₀ x w l rec
   -- ""Ran" tells the yes or no of that one run."
   pub ran :
-      (w n m : ℕ) (said : Bool) → (collect_of x.state w).told ≡ CollectTold.Answered (pick said RanYes RanNo) n m →
+      (w n m : ℕ) (said : Bool) → (collect_of x.state w).told ≡ Ok (answered (pick said RanYes RanNo) n m) →
       RanOnce e₀ x (x.tries w) said
   -- ""Not taken" is only told of a job outside the list.", and by request 03 so is "worn"; now and at every later cut
   pub not_taken :
-      (w n m : ℕ) (worn : Bool) → (collect_of x.state w).told ≡ CollectTold.Answered (pick worn Worn NotTaken) n m →
+      (w n m : ℕ) (worn : Bool) → (collect_of x.state w).told ≡ Ok (answered (pick worn Worn NotTaken) n m) →
       (more : List Call) → AllRecords more →
       (l : ℕ) → times (x.tries w).number ((follow x more).won l) ≡ 0
   -- the tries of a lock's list began on that lock; a try stands in the lists once at most; and a lock's turn is its starting turn and one
@@ -267,12 +267,12 @@ pub record Promised (e₀ : Engine) (x : Sofar) : Type 0 where
   -- document 01's "one that helps from step 1 at most 97", 193 since request 04: a try whose Look found its lock held, whoever steps in
   -- between
   pub ends_helping :
-      (w s : ℕ) → (x.found w).holder ≡ By s →
+      (w s : ℕ) → (x.found w).holder ≡ Some s →
       ((p : Point) → (worker_at x.state w).state ≡ UnderWay p → x.steps w < 193) ×
-      ((a : Answer) (n m : ℕ) → (collect_of x.state w).told ≡ CollectTold.Answered a n m → n ≤ 193)
+      ((a : Answer) (n m : ℕ) → (collect_of x.state w).told ≡ Ok (answered a n m) → n ≤ 193)
   -- "Collect (worker) hands out .. the number of accepted steps since begin"
   pub counted :
-      (w : ℕ) (a : Answer) (n m : ℕ) → (collect_of x.state w).told ≡ CollectTold.Answered a n m →
+      (w : ℕ) (a : Answer) (n m : ℕ) → (collect_of x.state w).told ≡ Ok (answered a n m) →
       (n ≡ x.steps w) × (n ≤ 196)
   -- turns at most 67,108,864, counts below 2 to the 32nd, and nothing is cut
   pub uncut : Uncut x.state

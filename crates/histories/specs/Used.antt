@@ -22,11 +22,11 @@ pub record Used (e : Engine) : Type 0 where
   pub most :
       (w : ℕ) → w < workers → (worker_at e w).state ≡ Idle → used_of (in_use e) sheets ≤ most_used (lock_count e) workers
   pub thirty : most_used most_locks workers ≡ 30
-  pub at_begin : (w l : ℕ) (rec : List ℕ) → (begin_of e w l rec).told ≡ Accepted → used_of (in_use e) sheets ≤ 30
+  pub at_begin : (w l : ℕ) (rec : List ℕ) → (begin_of e w l rec).told ≡ Ok tt → used_of (in_use e) sheets ≤ 30
   pub free : (w : ℕ) → w < workers → (worker_at e w).state ≡ Idle → lowest_of (in_use e) 0 sheets < sheets
   -- "Begin takes the free sheet with the lowest number": it is the worker's own then
   pub takes :
-      (w l : ℕ) (rec : List ℕ) → (begin_of e w l rec).told ≡ Accepted → LowestFree e (worker_at (begin_of e w l rec).engine w).own
+      (w l : ℕ) (rec : List ℕ) → (begin_of e w l rec).told ≡ Ok tt → LowestFree e (worker_at (begin_of e w l rec).engine w).own
 
 -- of any two states: where L, the words' guards, whether the worker may begin and whether the lock is worn are the same, begin tells the
 -- same, whatever stands on the sheets, and whatever sheets the locks name and the workers have

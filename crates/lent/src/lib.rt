@@ -10,11 +10,13 @@ ghost use Rattle.lent.specs.Calls.{handed_out, collect_numbers, drop_numbers};
 
 use cells::codes;
 use cells::worker::{FILLED, IDLE, NEW, RELEASE, STEPS, TAG};
-use engine::{CollectTold, LockTold, WordTold};
-use parts::{Refusal, Told, WORKERS};
+use engine::{Answered, reads};
+use lent_sheets::reads::Lent;
+use parts::{LockWord, Refusal, WORKERS, Word};
 
 // What worker w, which has finished, has to hand out; it is idle then.
-fn hand_out(s: &mut [u32], w: usize) -> CollectTold
+#[tactic(auto, unfolding(crate::specs::Calls::handed_out))]
+fn hand_out(s: &mut [u32], w: usize) -> Result<Answered, Refusal>
     requires { (numbers ≤ length s.old) × (w < workers) }
     ensures value { result ≡ handed_out s.old w }
     ensures s_after { s.new ≡ put_idle s.old w }
@@ -24,11 +26,15 @@ fn hand_out(s: &mut [u32], w: usize) -> CollectTold
     let filled = cells::get_number(s, w, FILLED);
     cells::put_idle(s, w);
     let answer = codes::answer_of(new);
-    CollectTold::Answered(answer, steps, filled)
+    Ok(Answered {
+        answer,
+        steps,
+        filled,
+    })
 }
 
 // The answer of worker w's try, its steps and the entries that it filled; the worker is idle. Refused: 1, 11, 3.
-pub fn collect(s: &mut [u32], w: u32) -> CollectTold
+pub fn collect(s: &mut [u32], w: u32) -> Result<Answered, Refusal>
     requires { numbers ≤ length s.old }
     ensures value { result ≡ (collect_of (unpack s.old) w).told }
     ensures s_after { s.new ≡ collect_numbers s.old w }
@@ -36,20 +42,20 @@ pub fn collect(s: &mut [u32], w: u32) -> CollectTold
 {
     let i = w as usize;
     if WORKERS <= i {
-        return CollectTold::Refused(Refusal::NoWorker);
+        return Err(Refusal::NoWorker);
     }
     let tag = cells::get_number(s, i, TAG);
     if tag == IDLE {
-        return CollectTold::Refused(Refusal::WorkerIdle);
+        return Err(Refusal::WorkerIdle);
     }
     if tag <= RELEASE {
-        return CollectTold::Refused(Refusal::WorkerUnderWay);
+        return Err(Refusal::WorkerUnderWay);
     }
     hand_out(s, i)
 }
 
 // Worker w is idle; a held lock stays held. Refused: 1, 11.
-pub fn drop(s: &mut [u32], w: u32) -> Told
+pub fn drop(s: &mut [u32], w: u32) -> Result<(), Refusal>
     requires { numbers ≤ length s.old }
     ensures value { result ≡ (drop_of (unpack s.old) w).told }
     ensures s_after { s.new ≡ drop_numbers s.old w }
@@ -57,38 +63,28 @@ pub fn drop(s: &mut [u32], w: u32) -> Told
 {
     let i = w as usize;
     if WORKERS <= i {
-        return Told::Refused(Refusal::NoWorker);
+        return Err(Refusal::NoWorker);
     }
     let tag = cells::get_number(s, i, TAG);
     if tag == IDLE {
-        return Told::Refused(Refusal::WorkerIdle);
+        return Err(Refusal::WorkerIdle);
     }
     cells::put_idle(s, i);
-    Told::Accepted
+    Ok(())
 }
 
 // A word's value, count and guard. Refused: 16.
-pub fn read_word(s: &[u32], word: u32) -> WordTold
+pub fn read_word(s: &[u32], word: u32) -> Result<Word, Refusal>
     requires { numbers ≤ length s.now }
     ensures { result ≡ read_word_of (unpack s.now) word }
 {
-    let i = word as usize;
-    let n = cells::word_count(s);
-    if n <= i {
-        return WordTold::Refused(Refusal::NoWord);
-    }
-    WordTold::Is(cells::get_word(s, i))
+    reads::read_word(&Lent { s }, word)
 }
 
 // A lock's turn and the sheet that holds it, if any. Refused: 2.
-pub fn read_lock(s: &[u32], lock: u32) -> LockTold
+pub fn read_lock(s: &[u32], lock: u32) -> Result<LockWord, Refusal>
     requires { numbers ≤ length s.now }
     ensures { result ≡ read_lock_of (unpack s.now) lock }
 {
-    let i = lock as usize;
-    let n = cells::lock_count(s);
-    if n <= i {
-        return LockTold::Refused(Refusal::NoLock);
-    }
-    LockTold::Is(cells::get_lock(s, i))
+    reads::read_lock(&Lent { s }, lock)
 }

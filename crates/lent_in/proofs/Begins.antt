@@ -1,32 +1,26 @@
 -- What begin makes of the lent numbers, and of the state that they say.
-use Prim.Native.Nat.{ℕ, ◌-◌, ◌/◌, ◌≤◌, ◌<◌}
+use Rattle.std.specs.Prelude.{Ok}
+use Prim.Native.Nat.{ℕ, ◌-◌, ◌/◌, ◌<◌}
 use mathlib.Core.Bool.{false}
 use mathlib.Core.List.{List}
 use mathlib.Core.Path.{◌≡◌, ◌∙◌, sym, ap}
 use native.Mathlib.Omega.{arith}
 use lib.ListN.{length, take, drop, replicate, length-drop}
-use Rattle.parts.specs.Numbers.{workers, sheets, instructions}
+use Rattle.parts.specs.Numbers.{sheets, instructions}
 use Rattle.parts.specs.Parts.{instr0, entry0}
-use Rattle.parts.specs.declared.Refusal.{Refusal}
-use Rattle.parts.specs.declared.Refusal.TheVariants.{WorkerUnderWay, NotCollected}
-use Rattle.parts.specs.declared.Told.{Told}
-use Rattle.parts.specs.declared.Told.TheVariants.{Accepted, Refused}
 use Rattle.records.specs.Job.{instrs_of, job_of}
 use Rattle.records.proofs.Fours.{instrs_length}
 use Rattle.records.proofs.Laws.{part_end}
 use Rattle.steps.specs.Worker as steps
 use Rattle.steps.specs.Worker.{looking_of, began_of}
 use Rattle.steps.specs.declared.Worker.{Worker}
-use Rattle.engine.specs.Calls.{begin_told, begun_of, begin_of}
+use Rattle.engine.specs.Calls.{begun_of}
 use Rattle.engine.proofs.Begins.{sheet_taken, looks}
 use Rattle.engine.specs.State.{worker_at, free_sheet, base_of, with_worker}
-use Rattle.cells.specs.Codes.{at_tag, idle_tag, release_tag}
-use Rattle.cells.specs.Layout.{instr_part, entry_part, unpack, number_at, put_sheet, put_worker}
+use Rattle.cells.specs.Layout.{instr_part, entry_part, unpack, put_sheet, put_worker}
 use Rattle.cells.specs.State.{with_sheet}
-use Rattle.cells.proofs.Tags.{tag_idle, tag_way, tag_end}
-use Rattle.lent_in.specs.Calls.{copied_numbers, copied_of, begun_numbers, begin_numbers}
+use Rattle.lent_in.specs.Calls.{copied_numbers, copied_of, begun_numbers}
 use Rattle.lent_in.specs.Laid.{lay_program, lay_log, Laid}
-use Rattle.lent_in.proofs.Loops.{Did}
 
 -- zeros, the job and an empty log were written
 pub copied_by :
@@ -41,24 +35,10 @@ copied_by s t u v rec sheet a b c = (
   c.1 ∙ simp (b.1, a.1, part_end 4 rec),
 )
 
--- may it begin? by its tag
-module _ (s : List ℕ) (w : ℕ) (b : w < workers) (tag : ℕ) (e : tag ≡ number_at s w at_tag) where
-  pub begin_idle : tag ≡ idle_tag → Accepted ≡ steps.begin_by_state (worker_at (unpack s) w)
-  unfolding steps.begin_by_state
-  begin_idle q = simp (tag_idle s w b tag e q)
-
-  pub begin_way : (tag ≡ idle_tag → ⊥) → tag ≤ release_tag → Refused WorkerUnderWay ≡ steps.begin_by_state (worker_at (unpack s) w)
-  unfolding steps.begin_by_state
-  begin_way q h = sym (tag_way s w b _ _ _ tag e q h)
-
-  pub begin_end : release_tag < tag → Refused NotCollected ≡ steps.begin_by_state (worker_at (unpack s) w)
-  unfolding steps.begin_by_state
-  begin_end h = simp (tag_end s w b tag e h)
-
 -- the sheet and the worker were written after that
 pub begun_by :
     (s t u v rec : List ℕ) (w l sheet n : ℕ) (next : Worker) →
-    steps.begin_by_state (worker_at (unpack s) w) ≡ Accepted →
+    steps.begin_by_state (worker_at (unpack s) w) ≡ Ok tt →
     next ≡ looking_of l sheet →
     (t ≡ copied_numbers s rec sheet) × (unpack t ≡ copied_of (unpack s) rec sheet) →
     n ≡ (length rec - 4) / 4 →
@@ -73,32 +53,6 @@ begun_by s t u v rec w l sheet n next i b c m x y =
       y.0 ∙ simp (x.0, c.0, k, j),
       y.1 ∙ simp (x.1, c.1, k, j),
     )
-
--- some row refuses: nothing changed
-pub begin_refused :
-    (s rec : List ℕ) (w l : ℕ) (q : Told) (r : Refusal) →
-    q ≡ begin_told (unpack s) w l rec →
-    q ≡ Refused r →
-    Did q s (begin_of (unpack s) w l rec) (begin_numbers s w l rec)
-unfolding begin_of begin_numbers
-begin_refused s rec w l q r h k =
-    let e = sym h ∙ k in
-    (k ∙ simp e, (simp e, simp e))
-
--- every row accepts
-pub begin_accepted :
-    (s t rec : List ℕ) (w l sheet : ℕ) (q : Told) →
-    q ≡ begin_told (unpack s) w l rec →
-    q ≡ Accepted →
-    sheet ≡ free_sheet (unpack s) →
-    (t ≡ begun_numbers s w l rec sheet) × (unpack t ≡ begun_of (unpack s) w l rec sheet) →
-    Did Accepted t (begin_of (unpack s) w l rec) (begin_numbers s w l rec)
-unfolding begin_of begin_numbers
-begin_accepted s t rec w l sheet q h k f n =
-    let e = sym h ∙ k in
-    let m = n.0 ∙ ap (λ (i : ℕ). begun_numbers s w l rec i) f in
-    let x = n.1 ∙ ap (λ (i : ℕ). begun_of (unpack s) w l rec i) f in
-    (simp e, (m ∙ simp e, x ∙ simp e))
 
 -- the sheet that the search found is one
 pub one_found : (s : List ℕ) (sheet : ℕ) → sheet ≡ free_sheet (unpack s) → sheet < sheets

@@ -1,22 +1,18 @@
 -- One turn and the end of a loop that writes pieces: those that are yet to be written are laid over what the numbers say now. And
 -- the three things that a call on lent numbers ensures.
-use Prim.Native.Nat.{ℕ, ◌+◌, ◌-◌}
-use mathlib.Core.List.{List, [], ◌∷◌}
-use mathlib.Core.Path.{◌≡◌, refl, ◌∙◌, sym, ap}
-use lib.ListN.{length, take, drop}
+use Rattle.std.proofs.Common.{◌≡◌, ℕ, ◌+◌, ◌*◌, ◌/◌, ◌<◌, ◌≤◌, List, [], ◌∷◌, length, map, drop, get_or, refl, ◌∙◌, sym, ap, add-zero, length-drop, arith}
+use Rattle.std.proofs.lemmas.List.{drop-drop, get_or-drop}
+use Rattle.arrays.specs.Fresh.{free_at}
 use Rattle.parts.specs.Lay.{lay}
-use Rattle.records.proofs.Laws.{part_end}
-use Rattle.parts.specs.declared.Told.{Told}
+use Rattle.records.specs.Bytes.{u32_of, u32s_of}
+use Rattle.records.specs.Job.{first_instr, instrs_of}
+use Rattle.records.proofs.Fours.{u32s_turn, instrs_turn}
+use Rattle.parts.specs.declared.Instr.{Instr}
 use Rattle.engine.specs.declared.Engine.{Engine}
-use Rattle.engine.specs.declared.Outcome.{Outcome}
 use Rattle.cells.specs.Layout.{word_part, lock_part, instr_part, entry_part, unpack}
 use Rattle.cells.specs.Pieces.{Part, put_piece}
 use Rattle.cells.specs.State.{with_lock, with_word, with_instr, with_entry}
 use Rattle.lent_in.specs.Laid.{put_all, lay_words, lay_locks, lay_program, lay_log, Laid}
-
--- told q and left the numbers t: the outcome o, in the numbers n
-abbrev pub Did : Told → List ℕ → Outcome → List ℕ → Type 0
-Did q t o n = (q ≡ o.told) × ((t ≡ n) × (unpack t ≡ o.engine))
 
 -- `over` lays pieces of the part p one after the other, each by `put`
 pub record Lays {A : Type 0} (p : Part A) (put : Engine → ℕ → A → Engine) (over : Engine → ℕ → List A → Engine) : Type 0 where
@@ -72,13 +68,27 @@ module _ {A : Type 0} {p : Part A} {put : Engine → ℕ → A → Engine} {over
     sym (l.1 ∙ ap (over (unpack t) j) e ∙ o.none (unpack t) j),
   )
 
-  -- the first is what f makes of the first four bytes
-  pub walk_turn :
-      (f : List ℕ → List A) (s t u r : List ℕ) (i j next : ℕ) (xs : List A) (x : A) →
-      Left p over s i xs t j (f r) →
-      (u ≡ put_piece p t j x) × (unpack u ≡ put (unpack t) j x) →
-      f r ≡ x ∷ f (drop 4 r) →
-      next ≡ j + 1 →
-      Left p over s i xs u next (f (take (length r - 4) (drop 4 r)))
-  walk_turn f s t u r i j next xs x l w e n =
-      laid_turn s t u i j next xs (f r) _ x l w (e ∙ ap (λ (m : List ℕ). x ∷ f m) (sym (part_end 4 r))) n
+-- the lock of the turn whose four bytes begin at 4 * j, and those after it; the instruction of the same
+module _ (s : List ℕ) (j : ℕ) (h : j < length s / 4) where
+  four_left : 4 ≤ length (drop (4 * j) s)
+  four_left = simp (length-drop (4 * j) s) (omega arith)
+
+  pub locks_next :
+      (t : ℕ) →
+      t ≡ u32_of (get_or s (4 * j) 0) (get_or s (4 * j + 1) 0) (get_or s (4 * j + 2) 0) (get_or s (4 * j + 3) 0) →
+      map free_at (u32s_of (drop (4 * j) s)) ≡ free_at t ∷ map free_at (u32s_of (drop (4 * (j + 1)) s))
+  locks_next t e =
+      let q : 4 * (j + 1) ≡ 4 * j + 4 = omega arith in
+      simp (q, u32s_turn (drop (4 * j) s) four_left, get_or-drop, drop-drop, add-zero, e)
+
+  pub program_next :
+      (x : Instr) →
+      x ≡ first_instr (drop (4 * j) s) →
+      instrs_of (drop (4 * j) s) ≡ x ∷ instrs_of (drop (4 * (j + 1)) s)
+  program_next x e =
+      let q : 4 * (j + 1) ≡ 4 * j + 4 = omega arith in
+      simp (q, instrs_turn (drop (4 * j) s) four_left, drop-drop, e)
+
+-- fewer than four bytes are left
+pub less_left : (s : List ℕ) (j : ℕ) → length s / 4 ≤ j → length (drop (4 * j) s) < 4
+less_left s j h = simp (length-drop (4 * j) s) (omega arith)

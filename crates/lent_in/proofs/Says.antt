@@ -1,5 +1,6 @@
 -- The numbers that setup and begin leave say the state of the call by value: by the definitions alone, of any numbers that are enough
 -- for a state, and of a job's record whose elements are bytes.
+use Rattle.std.specs.Prelude.{Err, Ok}
 use Prim.Native.Nat.{ℕ, zero, suc, ◌+◌, ◌≤◌, ◌<◌}
 use mathlib.Core.List.{List, [], ◌∷◌, map}
 use mathlib.Core.Path.{◌≡◌, refl, ◌∙◌, sym, ap, subst}
@@ -10,8 +11,7 @@ use Rattle.arrays.specs.Fresh.{words_from, free_at}
 use Rattle.parts.specs.Numbers.{most_locks, most_words, sheets, instructions}
 use Rattle.parts.specs.Parts.{instr0, entry0}
 use Rattle.parts.specs.Told.{on_told}
-use Rattle.parts.specs.declared.Told.{Told}
-use Rattle.parts.specs.declared.Told.TheVariants.{Accepted, Refused}
+use Rattle.parts.specs.Told.{Told}
 use Rattle.records.specs.Bytes.{AllBytes}
 use Rattle.records.specs.Job.{instrs_of, job_of}
 use Rattle.records.specs.Setup.{locks_field, words_field, guards_field, values_field, turns_field, setup_told}
@@ -88,7 +88,7 @@ words_size (g ∷ gs) (v ∷ vs) = omega (arith, words_size gs vs)
 
 -- "Setup makes a fresh state; a refused one gives the blank state"
 filled_says :
-    (s rec : List ℕ) → numbers ≤ length s → setup_told rec ≡ Accepted → Says s (filled_numbers s rec) (filled_of (unpack s) rec)
+    (s rec : List ℕ) → numbers ≤ length s → setup_told rec ≡ Ok tt → Says s (filled_numbers s rec) (filled_of (unpack s) rec)
 unfolding filled_numbers filled_of
 filled_says s rec h a =
     let z = setup_sized rec a in
@@ -117,11 +117,11 @@ setup_says s rec h = go (setup_told rec) refl
     go :
         (t : Told) → setup_told rec ≡ t →
         Says s (on_told t (filled_numbers (blanked s) rec) (λ r. blanked s)) (outcome_of blank_of t (fresh_of rec)).engine
-    go Accepted e =
+    go (Ok _) e =
         let n : length (blanked s) ≡ length s = length-blanked s in
         let x = filled_says (blanked s) rec (omega (arith, n)) e in
         (x.0 ∙ ap (λ (d : Engine). filled_of d rec) (unpack-blanked s h) ∙ fresh_is rec, x.1 ∙ n)
-    go (Refused r) e = (unpack-blanked s h, length-blanked s)
+    go (Err r) e = (unpack-blanked s h, length-blanked s)
 
 -- "Begin (worker, lock, job record) takes a sheet, copies the job, empties the log, clears the mark."
 copied_says :
@@ -180,5 +180,5 @@ begin_says s w l rec h bytes = go (begin_told (unpack s) w l rec) refl
         (t : Told) → begin_told (unpack s) w l rec ≡ t →
         Says s (on_told t (begun_numbers s w l rec (free_sheet (unpack s))) (λ r. s))
         (outcome_of (unpack s) t (taken_of (unpack s) w l rec)).engine
-    go Accepted e = begun_says s w l rec h bytes (begins (unpack s) w l rec e)
-    go (Refused r) e = (refl, refl)
+    go (Ok _) e = begun_says s w l rec h bytes (begins (unpack s) w l rec e)
+    go (Err r) e = (refl, refl)

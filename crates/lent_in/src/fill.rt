@@ -1,7 +1,6 @@
 // What an accepted setup does, and an accepted begin.
 ghost use Rattle.std.specs.Prelude.{◌≡◌, ◌+◌, ◌*◌, ◌≤◌, ◌<◌, length};
 ghost use Rattle.parts.specs.Numbers.{workers, sheets, instructions};
-ghost use Rattle.parts.specs.declared.Told.TheVariants.{Accepted};
 ghost use Rattle.records.specs.Inner.{Sized};
 ghost use Rattle.steps.specs.Worker.{looking_of, begin_by_state};
 ghost use Rattle.engine.specs.Calls.{begun_of};
@@ -11,8 +10,8 @@ ghost use Rattle.cells.specs.Layout.{numbers, unpack};
 ghost use Rattle.lent_in.specs.Calls.{filled_numbers, filled_of, copied_numbers, copied_of, begun_numbers};
 
 use crate::laid;
+use cells::piece::Piece;
 use engine::Sheet;
-use engine::fresh::wide;
 use parts::INSTRUCTIONS;
 use steps::{Point, State, Worker};
 
@@ -22,7 +21,7 @@ pub fn filled(s: &mut [u32], rec: &[u8])
     ensures s_after { s.new ≡ filled_numbers s.old rec.now }
     ensures unpacked { unpack s.new ≡ filled_of (unpack s.old) rec.now }
 {
-    let n = wide(rec[5]);
+    let n = usize::from(rec[5]);
     let values = 6 + n;
     let turns = 6 + 5 * n;
     cells::put_sizes(s, rec[4], rec[5]);
@@ -46,10 +45,9 @@ fn copied(s: &mut [u32], rec: &[u8], sheet: usize)
 fn looking(lock: u8, sheet: u8) -> Worker
     ensures { result ≡ looking_of lock sheet }
 {
-    let state = State::UnderWay(Point::Look);
     Worker {
-        state: state,
-        lock: lock,
+        state: State::UnderWay(Point::Look),
+        lock,
         own: sheet,
         steps: 0,
         filled: 0,
@@ -58,19 +56,19 @@ fn looking(lock: u8, sheet: u8) -> Worker
 
 // The sheet has the job, an empty log and no mark; worker w, which may begin, is to look at its lock.
 fn begun(s: &mut [u32], w: usize, lock: u8, rec: &[u8], sheet: u8)
-    requires { (numbers ≤ length s.old) × (w < workers) × (sheet < sheets) × (8 ≤ length rec.now) × (length rec.now ≤ 4 + 4 * instructions) × (begin_by_state (worker_at (unpack s.old) w) ≡ Accepted) }
+    requires { (numbers ≤ length s.old) × (w < workers) × (sheet < sheets) × (8 ≤ length rec.now) × (length rec.now ≤ 4 + 4 * instructions) × (begin_by_state (worker_at (unpack s.old) w) ≡ Ok tt) }
     ensures s_after { s.new ≡ begun_numbers s.old w lock rec.now sheet }
     ensures unpacked { unpack s.new ≡ begun_of (unpack s.old) w lock rec.now sheet }
 {
-    let at = sheet as usize;
+    let at = usize::from(sheet);
     copied(s, rec, at);
     let n = ((rec.len() - 4) / 4) as u8;
     let x = Sheet {
         length: n,
         done: false,
     };
-    cells::put_sheet(s, at, x);
-    cells::put_worker(s, w, looking(lock, sheet));
+    x.put(s, at);
+    looking(lock, sheet).put(s, w);
 }
 
 // The same, for a begin that found all that it asks for.

@@ -1,8 +1,8 @@
 // A worker's moves, straight on its numbers: only those that change are written. Each is the definition of specs/Moves.antt that it
 // names.
-ghost use Rattle.std.specs.Prelude.{◌≡◌, ◌+◌, ◌%◌, ◌^◌, ◌<◌, ◌≤◌, length};
+ghost use Rattle.std.specs.Prelude.{◌≡◌, ◌+◌, ◌%◌, ◌<◌, ◌≤◌, length};
 ghost use Rattle.parts.specs.Numbers.{workers};
-ghost use Rattle.cells.specs.Layout.{numbers, run_now};
+ghost use Rattle.cells.specs.Layout.{numbers};
 ghost use Rattle.lent_moves.specs.Moves.{stepped_to, to_grab, to_look_again, to_read_mark, cleared, started, passed, went, to_mark, holding, place_after, logged, loaded, to_swap, finished, counted};
 
 use cells::codes;
@@ -13,17 +13,19 @@ use cells::worker::{
 use parts::{Answer, LockWord, Reading};
 
 // One accepted step more, and the tag that it leads to.
+#[tactic(auto, unfolding(crate::specs::Moves::stepped_to))]
 pub fn step_to(s: &mut [u32], w: usize, tag: u32)
     requires { (numbers ≤ length s.old) × (w < workers) }
     ensures { s.new ≡ stepped_to s.old w tag }
 {
     let n = cells::get_number(s, w, STEPS);
-    let steps = std::num::wrapping_add_u32(n, 1);
+    let steps = n.wrapping_add(1);
     cells::put_number(s, w, TAG, tag);
     cells::put_number(s, w, STEPS, steps);
 }
 
 // On to Grab, with the turn that Look saw.
+#[tactic(auto, unfolding(crate::specs::Moves::to_grab))]
 pub fn to_grab(s: &mut [u32], w: usize, turn: u32)
     requires { (numbers ≤ length s.old) × (w < workers) }
     ensures { s.new ≡ to_grab s.old w turn }
@@ -33,6 +35,7 @@ pub fn to_grab(s: &mut [u32], w: usize, turn: u32)
 }
 
 // On to Look again, with the turn under which the own sheet won if it did.
+#[tactic(auto, unfolding(crate::specs::Moves::to_look_again))]
 pub fn to_look_again(s: &mut [u32], w: usize, won: u32)
     requires { (numbers ≤ length s.old) × (w < workers) }
     ensures { s.new ≡ to_look_again s.old w won }
@@ -42,18 +45,19 @@ pub fn to_look_again(s: &mut [u32], w: usize, won: u32)
 }
 
 // On to Read mark, with the lock word that was seen.
+#[tactic(auto, unfolding(crate::specs::Moves::to_read_mark))]
 pub fn to_read_mark(s: &mut [u32], w: usize, l: LockWord)
     requires { (numbers ≤ length s.old) × (w < workers) }
     ensures { s.new ≡ to_read_mark s.old w l }
 {
-    let h = l.holder;
-    let holder = codes::holder_number(h);
+    let holder = codes::holder_number(l.holder);
     step_to(s, w, READ_MARK);
     cells::put_number(s, w, SHEET, holder);
     cells::put_number(s, w, VALUE, l.turn);
 }
 
 // The four registers are 0.
+#[tactic(auto, unfolding(crate::specs::Moves::cleared))]
 fn clear(s: &mut [u32], w: usize)
     requires { (numbers ≤ length s.old) × (w < workers) }
     ensures { s.new ≡ cleared s.old w }
@@ -65,30 +69,33 @@ fn clear(s: &mut [u32], w: usize)
 }
 
 // Run a sheet, from instruction 0 with registers 0 and log place 0.
+#[tactic(auto, unfolding(crate::specs::Moves::started))]
 pub fn start(s: &mut [u32], w: usize, sheet: u8, won: u32)
     requires { (numbers ≤ length s.old) × (w < workers) }
     ensures { s.new ≡ started s.old w sheet won }
 {
     step_to(s, w, READ);
     clear(s, w);
-    cells::put_number(s, w, SHEET, sheet as u32);
+    cells::put_number(s, w, SHEET, u32::from(sheet));
     cells::put_number(s, w, WON, won);
     cells::put_number(s, w, NEXT, 0);
     cells::put_number(s, w, PLACE, 0);
 }
 
 // On to the next instruction, `over` passed over.
+#[tactic(auto, unfolding(crate::specs::Moves::passed))]
 pub fn pass(s: &mut [u32], w: usize, over: u8)
     requires { (numbers ≤ length s.old) × (w < workers) }
     ensures { s.new ≡ passed s.old w over }
 {
     let run = cells::get_run(s, w);
-    let next = ((run.next as u32) + 1 + (over as u32)) % 256;
+    let next = (u32::from(run.next) + 1 + u32::from(over)) % 256;
     step_to(s, w, READ);
     cells::put_number(s, w, NEXT, next);
 }
 
 // The same with register a.
+#[tactic(auto, unfolding(crate::specs::Moves::went))]
 pub fn go(s: &mut [u32], w: usize, a: u8, x: u32)
     requires { (numbers ≤ length s.old) × (w < workers) }
     ensures { s.new ≡ went s.old w a x }
@@ -98,6 +105,7 @@ pub fn go(s: &mut [u32], w: usize, a: u8, x: u32)
 }
 
 // On to Mark, with the halt's answer.
+#[tactic(auto, unfolding(crate::specs::Moves::to_mark))]
 pub fn to_mark(s: &mut [u32], w: usize, said: bool)
     requires { (numbers ≤ length s.old) × (w < workers) }
     ensures { s.new ≡ to_mark s.old w said }
@@ -108,6 +116,7 @@ pub fn to_mark(s: &mut [u32], w: usize, said: bool)
 }
 
 // A step to this tag, with a reading that the run goes by.
+#[tactic(auto, unfolding(crate::specs::Moves::holding))]
 pub fn hold(s: &mut [u32], w: usize, tag: u32, r: Reading)
     requires { (numbers ≤ length s.old) × (w < workers) }
     ensures { s.new ≡ holding s.old w tag r }
@@ -123,10 +132,11 @@ fn place_after(s: &[u32], w: usize) -> u32
     ensures { result ≡ place_after s.now w }
 {
     let run = cells::get_run(s, w);
-    ((run.place as u32) + 1) % 256
+    (u32::from(run.place) + 1) % 256
 }
 
 // A log entry passed, and on to the next instruction.
+#[tactic(auto, unfolding(crate::specs::Moves::logged))]
 pub fn log(s: &mut [u32], w: usize)
     requires { (numbers ≤ length s.old) × (w < workers) }
     ensures { s.new ≡ logged s.old w }
@@ -137,6 +147,7 @@ pub fn log(s: &mut [u32], w: usize)
 }
 
 // The same with register a.
+#[tactic(auto, unfolding(crate::specs::Moves::loaded))]
 pub fn load(s: &mut [u32], w: usize, a: u8, x: u32)
     requires { (numbers ≤ length s.old) × (w < workers) }
     ensures { s.new ≡ loaded s.old w a x }
@@ -146,6 +157,7 @@ pub fn load(s: &mut [u32], w: usize, a: u8, x: u32)
 }
 
 // A log entry passed, and on to Swap with what it holds and the word's new value.
+#[tactic(auto, unfolding(crate::specs::Moves::to_swap))]
 pub fn to_swap(s: &mut [u32], w: usize, held: Reading, new: u32)
     requires { (numbers ≤ length s.old) × (w < workers) }
     ensures { s.new ≡ to_swap s.old w held new }
@@ -157,6 +169,7 @@ pub fn to_swap(s: &mut [u32], w: usize, held: Reading, new: u32)
 }
 
 // The end of the try, with its answer.
+#[tactic(auto, unfolding(crate::specs::Moves::finished))]
 pub fn finish(s: &mut [u32], w: usize, answer: Answer)
     requires { (numbers ≤ length s.old) × (w < workers) }
     ensures { s.new ≡ finished s.old w answer }
@@ -167,11 +180,12 @@ pub fn finish(s: &mut [u32], w: usize, answer: Answer)
 }
 
 // One entry more that the worker was first to fill.
+#[tactic(auto, unfolding(crate::specs::Moves::counted))]
 pub fn count(s: &mut [u32], w: usize)
     requires { (numbers ≤ length s.old) × (w < workers) }
     ensures { s.new ≡ counted s.old w }
 {
     let n = cells::get_number(s, w, FILLED);
-    let filled = std::num::wrapping_add_u32(n, 1);
+    let filled = n.wrapping_add(1);
     cells::put_number(s, w, FILLED, filled);
 }

@@ -1,11 +1,11 @@
 -- The three parts of the call's contract: what it tells, by the tag; the numbers; and the state that they say, which follows of them.
+use Rattle.std.specs.Prelude.{Err, Ok}
 use Rattle.std.proofs.Common.{◌≡◌, ℕ, zero, suc, ◌<◌, ◌≤◌, List, length, sym, refl, ap, ◌∙◌, arith, le-leb}
 use borrow.Author.Tests.{lt-leb}
 use Rattle.parts.specs.Numbers.{workers}
 use Rattle.parts.specs.declared.Refusal.{Refusal}
 use Rattle.parts.specs.declared.Refusal.TheVariants.{NoWorker, WorkerIdle, NotCollected}
-use Rattle.parts.specs.declared.Told.{Told}
-use Rattle.parts.specs.declared.Told.TheVariants.{Accepted, Refused}
+use Rattle.parts.specs.Told.{Told}
 use Rattle.steps.specs.Worker as worker
 use Rattle.engine.specs.Calls.{step_told, step_of}
 use Rattle.cells.specs.Codes.{at_tag, idle_tag, release_tag}
@@ -40,18 +40,18 @@ module _ (s : List ℕ) (w : ℕ) (h : numbers ≤ length s) where
   stepped : (t : List ℕ) (r : Told) → r ≡ (step_of (unpack s) w).told → t ≡ step_numbers s w → Steps s t w r
   stepped t r e n = (e, (n, ap unpack n ∙ (step_says s w h).0))
 
-  step_refused : (r : Refusal) → step_told (unpack s) w ≡ Refused r → Steps s s w (Refused r)
+  step_refused : (r : Refusal) → step_told (unpack s) w ≡ Err r → Steps s s w (Err r)
   unfolding step_of step_numbers
   step_refused r e = stepped s _ (simp e) (simp e)
 
-  pub step_nobody : workers ≤ w → Steps s s w (Refused NoWorker)
+  pub step_nobody : workers ≤ w → Steps s s w (Err NoWorker)
   step_nobody b = step_refused NoWorker (simp (le-leb workers w b))
 
-  pub step_idle : (tag : ℕ) → w < workers → tag ≡ number_at s w at_tag → tag ≡ idle_tag → Steps s s w (Refused WorkerIdle)
+  pub step_idle : (tag : ℕ) → w < workers → tag ≡ number_at s w at_tag → tag ≡ idle_tag → Steps s s w (Err WorkerIdle)
   unfolding worker.step_by_state
   step_idle tag b e q = step_refused WorkerIdle (simp (lt-leb workers w b, tag_idle s w b tag e q))
 
-  pub step_end : (tag : ℕ) → w < workers → tag ≡ number_at s w at_tag → release_tag < tag → Steps s s w (Refused NotCollected)
+  pub step_end : (tag : ℕ) → w < workers → tag ≡ number_at s w at_tag → release_tag < tag → Steps s s w (Err NotCollected)
   unfolding worker.step_by_state
   step_end tag b e q = step_refused NotCollected (simp (lt-leb workers w b, tag_end s w b tag e q))
 
@@ -59,9 +59,9 @@ module _ (s : List ℕ) (w : ℕ) (h : numbers ≤ length s) where
   pub step_at_lem :
       (k : ℕ) (t : List ℕ) (r : Told) (tag : ℕ) →
       w < workers → tag ≡ number_at s w at_tag → tag ≡ k → (k ≡ idle_tag → ⊥) → k ≤ release_tag →
-      (r ≡ Accepted) × (t ≡ onward_numbers s w k) → Steps s t w r
+      (r ≡ Ok tt) × (t ≡ onward_numbers s w k) → Steps s t w r
   unfolding step_of step_numbers worker.step_by_state
   step_at_lem k t r tag b e q n u c =
       let y : k ≡ number_at s w at_tag = sym q ∙ e in
-      let a : step_told (unpack s) w ≡ Accepted = simp (lt-leb workers w b) (tag_way s w b _ _ _ k y n u) in
+      let a : step_told (unpack s) w ≡ Ok tt = simp (lt-leb workers w b) (tag_way s w b _ _ _ k y n u) in
       stepped t r (c.0 ∙ simp a) (simp a (c.1 ∙ ap (λ (m : ℕ). onward_numbers s w m) y))

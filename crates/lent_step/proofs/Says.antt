@@ -1,5 +1,6 @@
 -- The numbers that a step leaves say the state of the step by value: by the definitions alone, of any numbers that are enough for a
 -- state.
+use Rattle.std.specs.Prelude.{None, Option, Some}
 use Rattle.std.proofs.Common.{◌≡◌, ℕ, ◌+◌, ◌-◌, ◌%◌, ◌<◌, ◌≤◌, Bool, true, false, eqb, leb, List, length, get_or, sym, refl, ap, ◌∙◌, subst, arith, leb-false}
 use borrow.Author.Tests.{lt-leb}
 use lib.Seq.{set-get_or}
@@ -7,18 +8,14 @@ use Rattle.parts.specs.Instr.{asks_of, follows_of, on_asks, on_follows}
 use Rattle.parts.specs.Numbers.{workers, most_locks, most_words, sheets, last_turn}
 use Rattle.parts.specs.Parts as parts
 use Rattle.parts.specs.Parts.{entry0, lock0, word0, next32, reading_of, committed_of, holds_of, is_first, register_of}
-use Rattle.parts.specs.Pick.{pick, on_holder}
+use Rattle.parts.specs.Pick.{pick, on_option}
 use Rattle.parts.specs.declared.Answer.{Answer}
 use Rattle.parts.specs.declared.Answer.TheVariants.{NotTaken, Worn}
 use Rattle.parts.specs.declared.Asks.{Asks}
 use Rattle.parts.specs.declared.Asks.TheVariants.{Halt, Go, Touch}
 use Rattle.parts.specs.declared.Entry.{Entry}
-use Rattle.parts.specs.declared.Fill.{Fill}
-use Rattle.parts.specs.declared.Fill.TheVariants.{Empty, Filled}
 use Rattle.parts.specs.declared.Follows.{Follows}
 use Rattle.parts.specs.declared.Follows.TheVariants as follows
-use Rattle.parts.specs.declared.Holder.{Holder}
-use Rattle.parts.specs.declared.Holder.TheVariants.{Free, By}
 use Rattle.parts.specs.declared.Instr.{Instr}
 use Rattle.parts.specs.declared.LockWord.{LockWord}
 use Rattle.parts.specs.declared.Reading.{Reading}
@@ -59,7 +56,7 @@ use Rattle.lent_step.proofs.Put.{put_alone, put_lock_lem, put_word_lem, put_entr
 holder_fits : (x : ℕ) → HolderFits (holder_of x)
 holder_fits x = go (eqb x 0)
   where
-    go : (b : Bool) → HolderFits (pick b Free (By ((x - 1) % 256)))
+    go : (b : Bool) → HolderFits (pick b None (Some ((x - 1) % 256)))
     go true = tt
     go false = omega arith
 
@@ -90,27 +87,27 @@ unfolding parts.grab_of
 grab_fits l seen own f b = go l.holder (eqb l.turn seen)
   where
     go :
-        (k : Holder) (t : Bool) →
-        HolderFits (on_holder k (pick t (record { turn = next32 l.turn; holder = By own }) l) (λ s. l)).holder
-    go Free true = b
-    go Free false = f
-    go (By x) t = f
+        (k : Option ℕ) (t : Bool) →
+        HolderFits (on_option k (pick t (record { turn = next32 l.turn; holder = Some own }) l) (λ s. l)).holder
+    go None true = b
+    go None false = f
+    go (Some x) t = f
 
 release_fits : (l : LockWord) (won sheet : ℕ) → HolderFits l.holder → HolderFits (parts.release_of l won sheet).holder
 unfolding parts.release_of
 release_fits l won sheet f = go l.holder (eqb l.turn won)
   where
     freed : Bool → Bool → LockWord
-    freed t v = pick t (pick v (record { turn = l.turn; holder = Free }) l) l
+    freed t v = pick t (pick v (record { turn = l.turn; holder = None }) l) l
 
     two : (t v : Bool) → HolderFits (freed t v).holder
     two true true = tt
     two true false = f
     two false v = f
 
-    go : (k : Holder) (v : Bool) → HolderFits (on_holder k l (λ s. freed (eqb s sheet) v)).holder
-    go Free v = f
-    go (By x) v = two (eqb x sheet) v
+    go : (k : Option ℕ) (v : Bool) → HolderFits (on_option k l (λ s. freed (eqb s sheet) v)).holder
+    go None v = f
+    go (Some x) v = two (eqb x sheet) v
 
 swap_guard : (x : Word) (r : Reading) (new : ℕ) → (parts.swap_of x r new).guard ≡ x.guard
 unfolding parts.swap_of
@@ -124,13 +121,13 @@ swap_guard x r new = go (eqb x.value r.value) (eqb x.count r.count)
 -- The state that a worker is in after Look, Read mark, the first step of an instruction, and its commit.
 abbrev look_state : LockWord → State
 look_state l =
-    on_holder l.holder (pick (eqb l.turn last_turn) (Finished Worn) (UnderWay (Grab l.turn)))
+    on_option l.holder (pick (eqb l.turn last_turn) (Finished Worn) (UnderWay (Grab l.turn)))
     (λ sheet. UnderWay (Point.Run (start_of sheet l.turn) Read))
 
 abbrev mark_state : Bool → LockWord → ℕ → ℕ → State
 mark_state done l own won =
     pick done (UnderWay (Point.Run (start_of own won) Read))
-    (on_holder l.holder (Finished NotTaken)
+    (on_option l.holder (Finished NotTaken)
     (λ sheet. pick (eqb sheet own) (UnderWay (Point.Run (start_of own won) Read)) (UnderWay (Point.Run (start_of sheet l.turn) Read))))
 
 abbrev asked_state : Asks → Run → Reading → State
@@ -147,15 +144,15 @@ unfolding try.look_step
 look_is v = go v.lock.holder (eqb v.lock.turn last_turn)
   where
     go :
-        (h : Holder) (t : Bool) →
-        on_holder h (pick t (to_of v (Finished Worn)) (try.at_of v (Grab v.lock.turn)))
+        (h : Option ℕ) (t : Bool) →
+        on_option h (pick t (to_of v (Finished Worn)) (try.at_of v (Grab v.lock.turn)))
         (λ x. try.at_of v (Point.Run (start_of x v.lock.turn) Read)) ≡
         to_of v
-        (on_holder h (pick t (Finished Worn) (UnderWay (Grab v.lock.turn)))
+        (on_option h (pick t (Finished Worn) (UnderWay (Grab v.lock.turn)))
         (λ x. UnderWay (Point.Run (start_of x v.lock.turn) Read)))
-    go Free true = refl
-    go Free false = refl
-    go (By x) t = refl
+    go None true = refl
+    go None false = refl
+    go (Some x) t = refl
 
 to_pick : (v : View) (t : Bool) (a b : State) → pick t (to_of v a) (to_of v b) ≡ to_of v (pick t a b)
 to_pick v true a b = refl
@@ -172,13 +169,13 @@ mark_is v l won = go v.done l.holder
     other x = UnderWay (Point.Run (start_of x l.turn) Read)
 
     go :
-        (d : Bool) (h : Holder) →
+        (d : Bool) (h : Option ℕ) →
         pick d (to_of v own)
-        (on_holder h (to_of v (Finished NotTaken)) (λ x. pick (eqb x v.worker.own) (to_of v own) (to_of v (other x)))) ≡
-        to_of v (pick d own (on_holder h (Finished NotTaken) (λ x. pick (eqb x v.worker.own) own (other x))))
+        (on_option h (to_of v (Finished NotTaken)) (λ x. pick (eqb x v.worker.own) (to_of v own) (to_of v (other x)))) ≡
+        to_of v (pick d own (on_option h (Finished NotTaken) (λ x. pick (eqb x v.worker.own) own (other x))))
     go true h = refl
-    go false Free = refl
-    go false (By x) = to_pick v (eqb x v.worker.own) own (other x)
+    go false None = refl
+    go false (Some x) = to_pick v (eqb x v.worker.own) own (other x)
 
 read_is : (v : View) (r : Run) → try.read_step v r ≡ to_of v (asked_state (asks_of v.instr r.registers) r (reading_of v.word))
 unfolding try.read_step
@@ -228,12 +225,12 @@ module _ (s : List ℕ) (w : ℕ) (h : numbers ≤ length s) (b : w < workers) w
   moved_look l f = go l.holder f
     where
       go :
-          (k : Holder) → HolderFits k →
-          Moved s w (on_holder k (pick (eqb l.turn last_turn) (finished s w Worn) (to_grab s w l.turn)) (λ x. started s w x l.turn))
-          (on_holder k (pick (eqb l.turn last_turn) (Finished Worn) (UnderWay (Grab l.turn)))
+          (k : Option ℕ) → HolderFits k →
+          Moved s w (on_option k (pick (eqb l.turn last_turn) (finished s w Worn) (to_grab s w l.turn)) (λ x. started s w x l.turn))
+          (on_option k (pick (eqb l.turn last_turn) (Finished Worn) (UnderWay (Grab l.turn)))
           (λ x. UnderWay (Point.Run (start_of x l.turn) Read)))
-      go Free f = moved_pick s w (eqb l.turn last_turn) _ _ _ _ (moved_finish s w h b _) (moved_grab s w h b _)
-      go (By x) f = moved_start s w h b x l.turn f
+      go None f = moved_pick s w (eqb l.turn last_turn) _ _ _ _ (moved_finish s w h b _) (moved_grab s w h b _)
+      go (Some x) f = moved_start s w h b x l.turn f
 
   moved_own : Moved s w (started_own s w) (UnderWay (Point.Run (start_of (own_now s w) (number_at s w at_turn)) Read))
   unfolding started_own
@@ -244,14 +241,14 @@ module _ (s : List ℕ) (w : ℕ) (h : numbers ≤ length s) (b : w < workers) w
   moved_mark done l f = moved_pick s w done _ _ _ _ moved_own (go l.holder f)
     where
       go :
-          (k : Holder) → HolderFits k →
-          Moved s w (on_holder k (finished s w NotTaken) (λ x. pick (eqb x (own_now s w)) (started_own s w) (started s w x l.turn)))
-          (on_holder k (Finished NotTaken)
+          (k : Option ℕ) → HolderFits k →
+          Moved s w (on_option k (finished s w NotTaken) (λ x. pick (eqb x (own_now s w)) (started_own s w) (started s w x l.turn)))
+          (on_option k (Finished NotTaken)
           (λ x.
           pick (eqb x (own_now s w)) (UnderWay (Point.Run (start_of (own_now s w) (number_at s w at_turn)) Read))
           (UnderWay (Point.Run (start_of x l.turn) Read))))
-      go Free f = moved_finish s w h b _
-      go (By x) f = moved_pick s w (eqb x (own_now s w)) _ _ _ _ moved_own (moved_start s w h b _ _ f)
+      go None f = moved_finish s w h b _
+      go (Some x) f = moved_pick s w (eqb x (own_now s w)) _ _ _ _ moved_own (moved_start s w h b _ _ f)
 
   moved_first : (i : Instr) → Moved s w (first_numbers s w i) (asked_state (asks_of i (registers_now s w)) (run_now s w) (reading_of (word_now s i)))
   unfolding first_numbers asks_of
@@ -298,20 +295,20 @@ with_piece part change law s t w p k i x h b f m e = (
 )
 
 -- what a commit makes of an entry that is empty, and of one that is filled
-committed_empty : (e : Entry) (x : Reading) → e.fill ≡ Empty → committed_of e x ≡ record { fill = Filled x }
+committed_empty : (e : Entry) (x : Reading) → e.fill ≡ None → committed_of e x ≡ record { fill = Some x }
 unfolding committed_of
 committed_empty e x h = simp h
 
-committed_filled : (e : Entry) (x r : Reading) → e.fill ≡ Filled r → committed_of e x ≡ e
+committed_filled : (e : Entry) (x r : Reading) → e.fill ≡ Some r → committed_of e x ≡ e
 unfolding committed_of
 committed_filled e x r h = simp h
 
 -- and of the worker that committed to it
-counted_empty : (k : Worker) (e : Entry) → e.fill ≡ Empty → counted_of k (is_first e) ≡ counted_of k true
+counted_empty : (k : Worker) (e : Entry) → e.fill ≡ None → counted_of k (is_first e) ≡ counted_of k true
 unfolding is_first
 counted_empty k e h = simp h
 
-counted_filled : (k : Worker) (e : Entry) (r : Reading) → e.fill ≡ Filled r → counted_of k (is_first e) ≡ k
+counted_filled : (k : Worker) (e : Entry) (r : Reading) → e.fill ≡ Some r → counted_of k (is_first e) ≡ k
 unfolding is_first counted_of
 counted_filled k e r h = simp h
 
@@ -417,13 +414,13 @@ module _ (s : List ℕ) (w : ℕ) (h : numbers ≤ length s) (b : w < workers) w
       m : Moved s w (follow_numbers s w (instr_now s w) held) q
       m = moved_follow s w h b (instr_now s w) held
 
-      go : (f : Fill) → (entry_now s w).fill ≡ f → SaysAt s w (commit_numbers s w) p
-      go Empty z =
+      go : (f : Option Reading) → (entry_now s w).fill ≡ f → SaysAt s w (commit_numbers s w) p
+      go None z =
           simp z
           (with_piece entry_part with_entry unpack_entry s _ w p (moved_of (counted_of (worker_at e w) true) q) (entry_place s w)
-          (record { fill = Filled x }) h (omega arith) (entry_back (record { fill = Filled x })) (moved_count s _ w q h b m)
+          (record { fill = Some x }) h (omega arith) (entry_back (record { fill = Some x })) (moved_count s _ w q h b m)
           (rw (committed_empty (entry_now s w) x z, counted_empty (worker_at e w) (entry_now s w) z) at (committing x)))
-      go (Filled y) z =
+      go (Some y) z =
           simp z
           (alone s _ w p q m
           (entry_stays (with_worker e w (moved_of (worker_at e w) q)) (entry_place s w) ∙

@@ -10,7 +10,7 @@ use Rattle.lent_moves.specs.Moves.{to_grab, to_look_again, to_read_mark, started
 -- 1. Look, by the lock word that it finds; worn where that is free at the last turn
 unfoldable pub looked : List ℕ → ℕ → LockWord → List ℕ
 looked s w l =
-    on_holder l.holder (pick (eqb l.turn last_turn) (finished s w Worn) (to_grab s w l.turn))
+    on_option l.holder (pick (eqb l.turn last_turn) (finished s w Worn) (to_grab s w l.turn))
     (λ sheet. started s w sheet l.turn)
 
 unfoldable pub look_numbers : List ℕ → ℕ → List ℕ
@@ -32,7 +32,7 @@ started_own s w = started s w (own_now s w) (number_at s w at_turn)
 -- not marked, by the own sheet
 unfoldable pub started_seen : List ℕ → ℕ → LockWord → ℕ → List ℕ
 started_seen s w l own =
-    on_holder l.holder (finished s w NotTaken) (λ sheet. pick (eqb sheet own) (started_own s w) (started s w sheet l.turn))
+    on_option l.holder (finished s w NotTaken) (λ sheet. pick (eqb sheet own) (started_own s w) (started s w sheet l.turn))
 
 unfoldable pub mark_read : List ℕ → ℕ → Bool → LockWord → List ℕ
 mark_read s w done l = pick done (started_own s w) (started_seen s w l (own_now s w))
@@ -66,7 +66,7 @@ follow_numbers s w i held =
 -- commit: an entry that is empty takes what was read; either way the worker goes on with what the entry holds; the worker that fills the
 -- entry counts it
 unfoldable pub entry_filled : List ℕ → ℕ → ℕ → Entry → Reading → List ℕ
-entry_filled s w j e read = on_fill e.fill (put_entry (counted s w) j (record { fill = Filled read })) (λ held. s)
+entry_filled s w j e read = on_option e.fill (put_entry (counted s w) j (record { fill = Some read })) (λ held. s)
 
 unfoldable pub committed : List ℕ → ℕ → Instr → ℕ → Entry → List ℕ
 committed s w i j e = entry_filled (follow_numbers s w i (holds_of e (read_now s w))) w j e (read_now s w)

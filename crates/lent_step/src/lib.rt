@@ -8,11 +8,13 @@ ghost use Rattle.lent_step.specs.Points.{step_numbers};
 
 mod points;
 
-use cells::worker::TAG;
-use parts::{Refusal, Told, WORKERS};
+use cells::worker::{
+    COMMIT, GRAB, IDLE, LOOK, LOOK_AGAIN, MARK, READ, READ_MARK, RELEASE, SWAP, TAG,
+};
+use parts::{Refusal, WORKERS};
 
 // One step of worker w's try. Refused: 1, 11, 4.
-pub fn step(s: &mut [u32], w: u32) -> Told
+pub fn step(s: &mut [u32], w: u32) -> Result<(), Refusal>
     requires { numbers ≤ length s.old }
     ensures value { result ≡ (step_of (unpack s.old) w).told }
     ensures s_after { s.new ≡ step_numbers s.old w }
@@ -20,20 +22,20 @@ pub fn step(s: &mut [u32], w: u32) -> Told
 {
     let i = w as usize;
     if WORKERS <= i {
-        return Told::Refused(Refusal::NoWorker);
+        return Err(Refusal::NoWorker);
     }
     let tag = cells::get_number(s, i, TAG);
     match tag {
-        0 => Told::Refused(Refusal::WorkerIdle),
-        1 => points::look(s, i),
-        2 => points::grab(s, i),
-        3 => points::look_again(s, i),
-        4 => points::read_mark(s, i),
-        5 => points::read(s, i),
-        6 => points::commit(s, i),
-        7 => points::swap(s, i),
-        8 => points::mark(s, i),
-        9 => points::release(s, i),
-        _ => Told::Refused(Refusal::NotCollected),
+        IDLE => Err(Refusal::WorkerIdle),
+        LOOK => points::look(s, i),
+        GRAB => points::grab(s, i),
+        LOOK_AGAIN => points::look_again(s, i),
+        READ_MARK => points::read_mark(s, i),
+        READ => points::read(s, i),
+        COMMIT => points::commit(s, i),
+        SWAP => points::swap(s, i),
+        MARK => points::mark(s, i),
+        RELEASE => points::release(s, i),
+        _ => Err(Refusal::NotCollected),
     }
 }

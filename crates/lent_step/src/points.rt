@@ -2,24 +2,24 @@
 // definition of specs/Points.antt that it names; the nine points tell that the step was accepted.
 ghost use Rattle.std.specs.Prelude.{◌≡◌, ◌<◌, ◌≤◌, length};
 ghost use Rattle.parts.specs.Numbers.{workers, entries};
-ghost use Rattle.parts.specs.declared.Told.TheVariants.{Accepted};
 ghost use Rattle.cells.specs.Layout.{numbers};
 ghost use Rattle.lent_step.specs.Points.{looked, look_numbers, grab_numbers, look_again_numbers, started_own, started_seen, mark_read, read_mark_numbers, first_numbers, read_numbers, follow_numbers, entry_filled, committed, commit_numbers, swap_numbers, mark_numbers, release_numbers};
 
+use cells::piece::Piece;
 use cells::worker::{COMMIT, NEW, RELEASE, WON};
 use engine::Sheet;
 use lent_moves::{looks, moves};
-use parts::{Answer, Entry, Fill, Holder, Instr, LAST_TURN, LockWord, Reading, Told};
+use parts::{Answer, Entry, Instr, LAST_TURN, LockWord, Reading, Refusal, Word};
 
 // What Look does with the lock word that it finds.
+#[tactic(auto, unfolding(crate::specs::Points::looked))]
 fn look_at(s: &mut [u32], w: usize, l: LockWord)
     requires { (numbers ≤ length s.old) × (w < workers) }
     ensures { s.new ≡ looked s.old w l }
 {
-    let h = l.holder;
-    match h {
-        Holder::By(sheet) => moves::start(s, w, sheet, l.turn),
-        Holder::Free => {
+    match l.holder {
+        Some(sheet) => moves::start(s, w, sheet, l.turn),
+        None => {
             if l.turn == LAST_TURN {
                 moves::finish(s, w, Answer::Worn);
                 return;
@@ -29,44 +29,48 @@ fn look_at(s: &mut [u32], w: usize, l: LockWord)
     }
 }
 
-pub fn look(s: &mut [u32], w: usize) -> Told
+#[tactic(auto, unfolding(crate::specs::Points::look_numbers))]
+pub fn look(s: &mut [u32], w: usize) -> Result<(), Refusal>
     requires { (numbers ≤ length s.old) × (w < workers) }
-    ensures value { result ≡ Accepted }
+    ensures value { result ≡ Ok tt }
     ensures s_after { s.new ≡ look_numbers s.old w }
 {
     let j = looks::lock_place(s, w);
-    let l = cells::get_lock(s, j);
+    let l = LockWord::get(s, j);
     look_at(s, w, l);
-    Told::Accepted
+    Ok(())
 }
 
-pub fn grab(s: &mut [u32], w: usize) -> Told
+#[tactic(auto, unfolding(crate::specs::Points::grab_numbers))]
+pub fn grab(s: &mut [u32], w: usize) -> Result<(), Refusal>
     requires { (numbers ≤ length s.old) × (w < workers) }
-    ensures value { result ≡ Accepted }
+    ensures value { result ≡ Ok tt }
     ensures s_after { s.new ≡ grab_numbers s.old w }
 {
     let j = looks::lock_place(s, w);
-    let l = cells::get_lock(s, j);
+    let l = LockWord::get(s, j);
     let seen = cells::get_number(s, w, WON);
     let own = looks::own(s, w);
-    let won = std::num::wrapping_add_u32(seen, 1);
+    let won = seen.wrapping_add(1);
     moves::to_look_again(s, w, won);
     let next = l.grab(seen, own);
-    cells::put_lock(s, j, next);
-    Told::Accepted
+    next.put(s, j);
+    Ok(())
 }
 
-pub fn look_again(s: &mut [u32], w: usize) -> Told
+#[tactic(auto, unfolding(crate::specs::Points::look_again_numbers))]
+pub fn look_again(s: &mut [u32], w: usize) -> Result<(), Refusal>
     requires { (numbers ≤ length s.old) × (w < workers) }
-    ensures value { result ≡ Accepted }
+    ensures value { result ≡ Ok tt }
     ensures s_after { s.new ≡ look_again_numbers s.old w }
 {
     let j = looks::lock_place(s, w);
-    let l = cells::get_lock(s, j);
+    let l = LockWord::get(s, j);
     moves::to_read_mark(s, w, l);
-    Told::Accepted
+    Ok(())
 }
 
+#[tactic(auto, unfolding(crate::specs::Points::started_own))]
 fn start_own(s: &mut [u32], w: usize)
     requires { (numbers ≤ length s.old) × (w < workers) }
     ensures { s.new ≡ started_own s.old w }
@@ -77,14 +81,14 @@ fn start_own(s: &mut [u32], w: usize)
 }
 
 // What follows of the lock word that Look again saw, where the own sheet is not marked.
+#[tactic(auto, unfolding(crate::specs::Points::started_seen))]
 fn start_seen(s: &mut [u32], w: usize, l: LockWord, own: u8)
     requires { (numbers ≤ length s.old) × (w < workers) }
     ensures { s.new ≡ started_seen s.old w l own }
 {
-    let h = l.holder;
-    match h {
-        Holder::Free => moves::finish(s, w, Answer::NotTaken),
-        Holder::By(sheet) => {
+    match l.holder {
+        None => moves::finish(s, w, Answer::NotTaken),
+        Some(sheet) => {
             if sheet == own {
                 start_own(s, w);
                 return;
@@ -94,6 +98,7 @@ fn start_seen(s: &mut [u32], w: usize, l: LockWord, own: u8)
     }
 }
 
+#[tactic(auto, unfolding(crate::specs::Points::mark_read))]
 fn mark_read(s: &mut [u32], w: usize, done: bool, l: LockWord)
     requires { (numbers ≤ length s.old) × (w < workers) }
     ensures { s.new ≡ mark_read s.old w done l }
@@ -106,28 +111,30 @@ fn mark_read(s: &mut [u32], w: usize, done: bool, l: LockWord)
     start_seen(s, w, l, own);
 }
 
-pub fn read_mark(s: &mut [u32], w: usize) -> Told
+#[tactic(auto, unfolding(crate::specs::Points::read_mark_numbers))]
+pub fn read_mark(s: &mut [u32], w: usize) -> Result<(), Refusal>
     requires { (numbers ≤ length s.old) × (w < workers) }
-    ensures value { result ≡ Accepted }
+    ensures value { result ≡ Ok tt }
     ensures s_after { s.new ≡ read_mark_numbers s.old w }
 {
     let own = looks::own(s, w);
     let j = looks::sheet_place(own);
-    let sheet = cells::get_sheet(s, j);
+    let sheet = Sheet::get(s, j);
     let l = cells::get_seen(s, w);
     mark_read(s, w, sheet.done, l);
-    Told::Accepted
+    Ok(())
 }
 
 // The first step of instruction i.
+#[tactic(auto, unfolding(crate::specs::Points::first_numbers))]
 fn first(s: &mut [u32], w: usize, i: Instr)
     requires { (numbers ≤ length s.old) × (w < workers) }
     ensures { s.new ≡ first_numbers s.old w i }
 {
-    let op = i.op;
-    match op {
+    match i.op {
         0 => moves::to_mark(s, w, i.a == 1),
         1 => moves::go(s, w, i.a, looks::constant(i)),
+        // Three arms, since `2 | 3 | 4` costs two instructions more at each Read.
         2 => {
             let r = looks::reading(s, i);
             moves::hold(s, w, COMMIT, r)
@@ -156,23 +163,24 @@ fn first(s: &mut [u32], w: usize, i: Instr)
     }
 }
 
-pub fn read(s: &mut [u32], w: usize) -> Told
+#[tactic(auto, unfolding(crate::specs::Points::read_numbers))]
+pub fn read(s: &mut [u32], w: usize) -> Result<(), Refusal>
     requires { (numbers ≤ length s.old) × (w < workers) }
-    ensures value { result ≡ Accepted }
+    ensures value { result ≡ Ok tt }
     ensures s_after { s.new ≡ read_numbers s.old w }
 {
     let i = looks::instr(s, w);
     first(s, w, i);
-    Told::Accepted
+    Ok(())
 }
 
 // What follows of the value that the log entry holds.
+#[tactic(auto, unfolding(crate::specs::Points::follow_numbers))]
 fn follow(s: &mut [u32], w: usize, i: Instr, held: Reading)
     requires { (numbers ≤ length s.old) × (w < workers) }
     ensures { s.new ≡ follow_numbers s.old w i held }
 {
-    let op = i.op;
-    match op {
+    match i.op {
         2 => moves::load(s, w, i.a, held.value),
         3 => {
             let x = cells::get_register(s, w, i.a);
@@ -191,24 +199,20 @@ fn follow(s: &mut [u32], w: usize, i: Instr, held: Reading)
 }
 
 // An empty log entry takes what was read, and worker w counts it; a filled one stays.
+#[tactic(auto, unfolding(crate::specs::Points::entry_filled))]
 fn fill(s: &mut [u32], w: usize, j: usize, e: Entry, read: Reading)
     requires { (numbers ≤ length s.old) × (w < workers) × (j < entries) }
     ensures { s.new ≡ entry_filled s.old w j e read }
 {
-    let old = e.fill;
-    match old {
-        Fill::Empty => {
-            let filled = Entry {
-                fill: Fill::Filled(read),
-            };
-            moves::count(s, w);
-            cells::put_entry(s, j, filled);
-        }
-        Fill::Filled(_) => {}
+    if e.fill.is_none() {
+        let filled = Entry { fill: Some(read) };
+        moves::count(s, w);
+        filled.put(s, j);
     }
 }
 
 // The commit of instruction i to the log entry at j, which is e.
+#[tactic(auto, unfolding(crate::specs::Points::committed))]
 fn commit_to(s: &mut [u32], w: usize, i: Instr, j: usize, e: Entry)
     requires { (numbers ≤ length s.old) × (w < workers) × (j < entries) }
     ensures { s.new ≡ committed s.old w i j e }
@@ -218,62 +222,66 @@ fn commit_to(s: &mut [u32], w: usize, i: Instr, j: usize, e: Entry)
     fill(s, w, j, e, read);
 }
 
-pub fn commit(s: &mut [u32], w: usize) -> Told
+#[tactic(auto, unfolding(crate::specs::Points::commit_numbers))]
+pub fn commit(s: &mut [u32], w: usize) -> Result<(), Refusal>
     requires { (numbers ≤ length s.old) × (w < workers) }
-    ensures value { result ≡ Accepted }
+    ensures value { result ≡ Ok tt }
     ensures s_after { s.new ≡ commit_numbers s.old w }
 {
     let i = looks::instr(s, w);
     let j = looks::entry_place(s, w);
-    let e = cells::get_entry(s, j);
+    let e = Entry::get(s, j);
     commit_to(s, w, i, j, e);
-    Told::Accepted
+    Ok(())
 }
 
-pub fn swap(s: &mut [u32], w: usize) -> Told
+#[tactic(auto, unfolding(crate::specs::Points::swap_numbers))]
+pub fn swap(s: &mut [u32], w: usize) -> Result<(), Refusal>
     requires { (numbers ≤ length s.old) × (w < workers) }
-    ensures value { result ≡ Accepted }
+    ensures value { result ≡ Ok tt }
     ensures s_after { s.new ≡ swap_numbers s.old w }
 {
     let i = looks::instr(s, w);
     let j = looks::word_place(i);
-    let x = cells::get_word(s, j);
+    let x = Word::get(s, j);
     let entry = cells::get_reading(s, w);
     let new = cells::get_number(s, w, NEW);
     moves::pass(s, w, 0);
-    let next = x.swap(entry, new);
-    cells::put_word(s, j, next);
-    Told::Accepted
+    let swapped = x.swap(entry, new);
+    swapped.put(s, j);
+    Ok(())
 }
 
-pub fn mark(s: &mut [u32], w: usize) -> Told
+#[tactic(auto, unfolding(crate::specs::Points::mark_numbers))]
+pub fn mark(s: &mut [u32], w: usize) -> Result<(), Refusal>
     requires { (numbers ≤ length s.old) × (w < workers) }
-    ensures value { result ≡ Accepted }
+    ensures value { result ≡ Ok tt }
     ensures s_after { s.new ≡ mark_numbers s.old w }
 {
     let run = cells::get_run(s, w);
     let j = looks::sheet_place(run.sheet);
-    let sheet = cells::get_sheet(s, j);
+    let sheet = Sheet::get(s, j);
     let done = Sheet {
         length: sheet.length,
         done: true,
     };
     moves::step_to(s, w, RELEASE);
-    cells::put_sheet(s, j, done);
-    Told::Accepted
+    done.put(s, j);
+    Ok(())
 }
 
-pub fn release(s: &mut [u32], w: usize) -> Told
+#[tactic(auto, unfolding(crate::specs::Points::release_numbers))]
+pub fn release(s: &mut [u32], w: usize) -> Result<(), Refusal>
     requires { (numbers ≤ length s.old) × (w < workers) }
-    ensures value { result ≡ Accepted }
+    ensures value { result ≡ Ok tt }
     ensures s_after { s.new ≡ release_numbers s.old w }
 {
     let j = looks::lock_place(s, w);
-    let l = cells::get_lock(s, j);
+    let l = LockWord::get(s, j);
     let run = cells::get_run(s, w);
     let answer = looks::answer(s, w);
     moves::finish(s, w, answer);
     let next = l.release(run.won, run.sheet);
-    cells::put_lock(s, j, next);
-    Told::Accepted
+    next.put(s, j);
+    Ok(())
 }

@@ -1,16 +1,11 @@
 -- What a test, or the case of a value, that is known picks: `search laws` closes a return by them.
-use Rattle.std.proofs.Common.{◌≡◌, ℕ, ◌+◌, ◌-◌, ◌%◌, ◌^◌, ◌<◌, ◌≤◌, Bool, true, false, not, T, eqb, ltb, leb, sym, ◌∙◌, arith, le-ltb, lt-ltb, eq-eqb, ne_eqb, le-leb}
+use Rattle.std.specs.Prelude.{Err, None, Ok, Option, Some}
+use Rattle.std.proofs.Common.{◌≡◌, ℕ, ◌<◌, ◌≤◌, Bool, true, false, not, T, eqb, ltb, leb, sym, ◌∙◌, le-ltb, lt-ltb, eq-eqb, ne_eqb, le-leb}
 use borrow.Author.Tests.{lt-leb}
-use Rattle.parts.specs.Pick.{pick, ◌or◌, on_holder, on_fill}
+use Rattle.parts.specs.Pick.{pick, ◌or◌, on_option}
 use Rattle.parts.specs.Told.{◌then◌}
-use Rattle.parts.specs.declared.Fill.{Fill}
-use Rattle.parts.specs.declared.Fill.TheVariants.{Empty, Filled}
-use Rattle.parts.specs.declared.Holder.{Holder}
-use Rattle.parts.specs.declared.Holder.TheVariants.{Free, By}
-use Rattle.parts.specs.declared.Reading.{Reading}
 use Rattle.parts.specs.declared.Refusal.{Refusal}
-use Rattle.parts.specs.declared.Told.{Told}
-use Rattle.parts.specs.declared.Told.TheVariants.{Accepted, Refused}
+use Rattle.parts.specs.Told.{Told}
 
 pub pick_eq : {A : Type 0} (a b : ℕ) (x y z : A) → a ≡ b → x ≡ y → x ≡ pick (eqb a b) y z
 pick_eq a b x y z h e = simp (eq-eqb a b h) e
@@ -67,23 +62,17 @@ pub pick-not : {A : Type 0} (b : Bool) (x y z : A) → x ≡ pick b z y → x �
 pick-not true x y z e = e
 pick-not false x y z e = e
 
-pub holder_free : {A : Type 0} (h : Holder) (x a : A) (f : ℕ → A) → h ≡ Free → x ≡ a → x ≡ on_holder h a f
-holder_free h x a f q e = simp q e
+pub option_none : {A B : Type 0} (o : Option B) (x a : A) (f : B → A) → o ≡ None → x ≡ a → x ≡ on_option o a f
+option_none o x a f q e = simp q e
 
-pub holder_by : {A : Type 0} (h : Holder) (s : ℕ) (x a : A) (f : ℕ → A) → h ≡ By s → x ≡ f s → x ≡ on_holder h a f
-holder_by h s x a f q e = simp q e
-
-pub fill_empty : {A : Type 0} (h : Fill) (x a : A) (f : Reading → A) → h ≡ Empty → x ≡ a → x ≡ on_fill h a f
-fill_empty h x a f q e = simp q e
-
-pub fill_filled : {A : Type 0} (h : Fill) (r : Reading) (x a : A) (f : Reading → A) → h ≡ Filled r → x ≡ f r → x ≡ on_fill h a f
-fill_filled h r x a f q e = simp q e
+pub option_some : {A B : Type 0} (o : Option B) (b : B) (x a : A) (f : B → A) → o ≡ Some b → x ≡ f b → x ≡ on_option o a f
+option_some o b x a f q e = simp q e
 
 -- a row that accepts is passed; one that refuses is told
-pub then_pass : (t u x : Told) → Accepted ≡ t → x ≡ u → x ≡ (t then u)
+pub then_pass : (t u x : Told) → Ok tt ≡ t → x ≡ u → x ≡ (t then u)
 then_pass t u x h e = simp (← h) e
 
-pub then_stop : (t u : Told) (r : Refusal) → Refused r ≡ t → Refused r ≡ (t then u)
+pub then_stop : (t u : Told) (r : Refusal) → Err r ≡ t → Err r ≡ (t then u)
 then_stop t u r h = simp (← h)
 
 -- the test is a callee's result r, of which the callee ensures what it is
@@ -93,39 +82,22 @@ pick_true_by r b x y z q h e = simp (sym q ∙ h) e
 pub pick_false_by : {A : Type 0} (r b : Bool) (x y z : A) → r ≡ b → r ≡ false → x ≡ z → x ≡ pick b y z
 pick_false_by r b x y z q h e = simp (sym q ∙ h) e
 
--- an order of two numbers, of which callees ensure what they are
-pub pick_le_by : {A : Type 0} (r q a b : ℕ) (x y z : A) → r ≤ q → r ≡ a → q ≡ b → x ≡ y → x ≡ pick (leb a b) y z
-pick_le_by r q a b x y z h k l e = simp (le-leb a b (rw (k, l) at h)) e
-
-pub pick_nle_by : {A : Type 0} (r q a b : ℕ) (x y z : A) → q < r → r ≡ a → q ≡ b → x ≡ z → x ≡ pick (leb a b) y z
-pick_nle_by r q a b x y z h k l e = simp (lt-leb a b (rw (k, l) at h)) e
-
 -- the first of two rows is a callee's result t
-pub then_pass_by : (t u v x : Told) → t ≡ u → t ≡ Accepted → x ≡ v → x ≡ (u then v)
+pub then_pass_by : (t u v x : Told) → t ≡ u → t ≡ Ok tt → x ≡ v → x ≡ (u then v)
 then_pass_by t u v x q h e = simp (sym q ∙ h) e
 
-pub then_stop_by : (t u v : Told) (r : Refusal) → t ≡ u → t ≡ Refused r → t ≡ (u then v)
+pub then_stop_by : (t u v : Told) (r : Refusal) → t ≡ u → t ≡ Err r → t ≡ (u then v)
 then_stop_by t u v r q h = simp (sym q ∙ h) h
-
--- a function by cases, f, at a value whose case is known: `search (at_case f)`
-pub at_case : {A B : Type 0} (f : A → B) (p q : A) (x : B) → p ≡ q → x ≡ f q → x ≡ f p
-at_case f p q x h e = simp h e
 
 pub at_case_of : {A B C : Type 0} (f : A → B → C) (p q : A) (y : B) (x : C) → p ≡ q → x ≡ f q y → x ≡ f p y
 at_case_of f p q y x h e = simp h e
 
--- `wrapping_sub_u32` by what it ensures
-pub sub32 : (r x y : ℕ) → r < 2 ^ 32 → y < 2 ^ 32 → (r + y) % 2 ^ 32 ≡ x → r ≡ (x + 2 ^ 32 - y) % 2 ^ 32
-sub32 r x y h k e = omega arith
-
 pub ruleset tests = (pick_eq, pick_key, pick_ne, pick_le, pick_nle, pick_lt, pick_nlt, pick_true, pick_false, pick_eq_by, pick_ne_by, pick_eq_both, pick_ne_both, pick-or, pick-not)
 
-pub ruleset cases = (holder_free, holder_by, fill_empty, fill_filled)
+pub ruleset cases = (option_none, option_some)
 
 pub ruleset order = (then_pass, then_stop)
 
 pub ruleset laws = (tt, tests, cases)
 
 pub ruleset calls = (pick_true_by, pick_false_by, then_pass_by, then_stop_by)
-
-pub ruleset orders = (pick_le_by, pick_nle_by)

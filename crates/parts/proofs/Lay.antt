@@ -24,14 +24,6 @@ pub lay_cons : {A : Type 0} (at next : ℕ) (x : A) (xs l : List A) → next ≡
 unfolding lay
 lay_cons at next x xs l e = ap (λ (k : ℕ). lay k xs (set l at x)) (sym e)
 
--- four elements, and the rest from the fourth place after on
-pub lay_four :
-    {A : Type 0} (at : ℕ) (p q r s : A) (xs l : List A) →
-    lay at (p ∷ q ∷ r ∷ s ∷ xs) l ≡ lay (at + 4) xs (set (set (set (set l at p) (at + 1) q) (at + 2) r) (at + 3) s)
-lay_four at p q r s xs l =
-    lay_cons at (at + 1) p _ l refl ∙ lay_cons (at + 1) (at + 2) q _ _ (omega arith) ∙
-    lay_cons (at + 2) (at + 3) r _ _ (omega arith) ∙ lay_cons (at + 3) (at + 4) s _ _ (omega arith)
-
 -- a list laid after another is laid past it
 pub lay-append :
     {A : Type 0} (at : ℕ) (xs ys l : List A) →

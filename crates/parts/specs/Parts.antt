@@ -2,7 +2,7 @@
 mod Names
 use Names.*
 use Rattle.parts.specs.Numbers.{last_turn}
-use Rattle.parts.specs.Pick.{pick, on_holder, on_fill}
+use Rattle.parts.specs.Pick.{pick, on_option}
 
 -- the values at the start, and past an array's end
 abbrev pub instr0 : Instr
@@ -15,10 +15,10 @@ abbrev pub word0 : Word
 word0 = record { value = 0; count = 0; guard = 0 }
 
 abbrev pub entry0 : Entry
-entry0 = record { fill = Empty }
+entry0 = record { fill = None }
 
 abbrev pub lock0 : LockWord
-lock0 = record { turn = 0; holder = Free }
+lock0 = record { turn = 0; holder = None }
 
 -- one more, at 32 bits
 abbrev pub next32 : ℕ → ℕ
@@ -49,29 +49,29 @@ swap_of w e new =
 
 -- "Commit: if the log entry at the place is empty it takes the value and count read"
 unfoldable pub committed_of : Entry → Reading → Entry
-committed_of e read = on_fill e.fill (record { fill = Filled read }) (λ first. e)
+committed_of e read = on_option e.fill (record { fill = Some read }) (λ first. e)
 
 -- "either way the worker goes on with what the entry holds"
 unfoldable pub holds_of : Entry → Reading → Reading
-holds_of e read = on_fill e.fill read (λ first. first)
+holds_of e read = on_option e.fill read (λ first. first)
 
 -- request 02: "Commit also says whether this worker filled the entry", by the entry before the commit
 unfoldable pub is_first : Entry → Bool
-is_first e = on_fill e.fill true (λ first. false)
+is_first e = on_option e.fill true (λ first. false)
 
 -- "the lock is free with turn 67,108,864"
 unfoldable pub worn_of : LockWord → Bool
-worn_of l = on_holder l.holder (eqb l.turn last_turn) (λ s. false)
+worn_of l = on_option l.holder (eqb l.turn last_turn) (λ s. false)
 
 -- "Grab. If the lock word is still what was remembered, it becomes turn + 1, held by the worker's own sheet.
 -- Otherwise nothing changes." What was remembered is free, at the turn seen.
 unfoldable pub grab_of : LockWord → ℕ → ℕ → LockWord
 grab_of l seen sheet =
-    on_holder l.holder
-    (pick (eqb l.turn seen) (record { turn = next32 l.turn; holder = By sheet }) l) (λ s. l)
+    on_option l.holder
+    (pick (eqb l.turn seen) (record { turn = next32 l.turn; holder = Some sheet }) l) (λ s. l)
 
 -- "Release. If the lock word is held by that sheet at the turn under which it won, it becomes free with the same turn."
 unfoldable pub release_of : LockWord → ℕ → ℕ → LockWord
 release_of l won sheet =
-    on_holder l.holder l
-    (λ s. pick (eqb s sheet) (pick (eqb l.turn won) (record { turn = l.turn; holder = Free }) l) l)
+    on_option l.holder l
+    (λ s. pick (eqb s sheet) (pick (eqb l.turn won) (record { turn = l.turn; holder = None }) l) l)

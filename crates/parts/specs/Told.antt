@@ -57,27 +57,31 @@ refusal_place (Malformed at) = at
 refusal_place NotThere = 0
 refusal_place Present = 0
 
+-- what a call tells that has no more to tell than whether it was accepted
+abbrev pub Told : Type 0
+Told = Result Unit Refusal
+
 -- of what a call told: where it was accepted; where it was refused
 abbrev pub on_told : {A : Type 0} → Told → A → (Refusal → A) → A
-on_told Accepted a f = a
-on_told (Refused r) a f = f r
+on_told (Ok _) a f = a
+on_told (Err r) a f = f r
 
 -- one row of a call's order: refused so exactly when the test holds
 abbrev pub refuse_if : Bool → Refusal → Told
-refuse_if test r = pick test (Refused r) Accepted
+refuse_if test r = pick test (Err r) (Ok tt)
 
 -- the first where it refuses, else the second
 abbrev pub ◌then◌ : Told → Told → Told
-Accepted then u = u
-(Refused r) then u = Refused r
+(Ok _) then u = u
+(Err r) then u = Err r
 
 -- a call's order: the first row that refuses
 abbrev pub first_of : List Told → Told
-first_of [] = Accepted
+first_of [] = Ok tt
 first_of (t ∷ []) = t
 first_of (t ∷ u ∷ ts) = t then first_of (u ∷ ts)
 
 -- row i refuses with r, and every row before it accepts
 abbrev pub FirstAt : List Told → Refusal → ℕ → Type 0
 FirstAt rows r i =
-    (i < length rows) × (get_or rows i Accepted ≡ Refused r) × ((j : ℕ) → j < i → get_or rows j Accepted ≡ Accepted)
+    (i < length rows) × (get_or rows i (Ok tt) ≡ Err r) × ((j : ℕ) → j < i → get_or rows j (Ok tt) ≡ Ok tt)

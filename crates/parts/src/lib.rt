@@ -27,7 +27,7 @@ pub const LAST_TURN: u32 = 67108864;
 
 // What a finished try answers. Not taken says that its job was not run, no more; worn says that too, and that its Look found its lock
 // free at the last turn.
-#[derive(Clone, Copy)]
+#[derive(Clone, Copy, Debug, PartialEq, Eq)]
 pub enum Answer {
     RanYes,
     RanNo,
@@ -36,7 +36,7 @@ pub enum Answer {
 }
 
 // Why a call is refused, in the order of their numbers, of which 10 is none's; a case that has a place other than 0 holds it.
-#[derive(Clone, Copy)]
+#[derive(Clone, Copy, Debug, PartialEq, Eq)]
 pub enum Refusal {
     NoWorker,
     NoLock,
@@ -57,13 +57,6 @@ pub enum Refusal {
     Malformed(usize),
     NotThere,
     Present,
-}
-
-// What a call tells that has no more to tell than whether it was accepted.
-#[derive(Clone, Copy)]
-pub enum Told {
-    Accepted,
-    Refused(Refusal),
 }
 
 // One instruction of a job.
@@ -100,7 +93,7 @@ pub enum Follows {
 }
 
 // The value and the count that were read of a word.
-#[derive(Clone, Copy)]
+#[derive(Clone, Copy, PartialEq, Eq)]
 pub struct Reading {
     pub value: u32,
     pub count: u32,
@@ -113,30 +106,21 @@ pub struct Word {
     pub guard: u8,
 }
 
-#[derive(Clone, Copy)]
-pub enum Fill {
-    Empty,
-    Filled(Reading),
-}
-
+// A log entry: empty, or filled with what was read.
 #[derive(Clone, Copy)]
 pub struct Entry {
-    pub fill: Fill,
+    pub fill: Option<Reading>,
 }
 
-#[derive(Clone, Copy)]
-pub enum Holder {
-    Free,
-    By(u8),
-}
-
+// `holder` is the sheet that holds the lock; a free one has none.
 #[derive(Clone, Copy)]
 pub struct LockWord {
     pub turn: u32,
-    pub holder: Holder,
+    pub holder: Option<u8>,
 }
 
 impl Answer {
+    #[tactic(auto, unfolding(crate::specs::Told::answer_number))]
     pub fn number(self) -> u32
         ensures { result ≡ answer_number self }
     {
@@ -150,6 +134,7 @@ impl Answer {
 }
 
 impl Refusal {
+    #[tactic(auto, unfolding(crate::specs::Told::refusal_number))]
     pub fn number(self) -> u32
         ensures { result ≡ refusal_number self }
     {
@@ -176,34 +161,23 @@ impl Refusal {
         }
     }
 
+    #[tactic(auto, unfolding(crate::specs::Told::refusal_place))]
     pub fn place(self) -> usize
         ensures { result ≡ refusal_place self }
     {
         match self {
-            Refusal::NoWorker => 0,
-            Refusal::NoLock => 0,
-            Refusal::WorkerUnderWay => 0,
-            Refusal::NotCollected => 0,
-            Refusal::Length => 0,
-            Refusal::Kind => 0,
-            Refusal::Instruction(place) => place,
-            Refusal::Guard(place) => place,
-            Refusal::LastTurn => 0,
-            Refusal::WorkerIdle => 0,
-            Refusal::Range(place) => place,
-            Refusal::Buffer => 0,
-            Refusal::SheetFree => 0,
-            Refusal::Held(lock) => lock,
-            Refusal::NoWord => 0,
-            Refusal::CallRecord => 0,
-            Refusal::Malformed(at) => at,
-            Refusal::NotThere => 0,
-            Refusal::Present => 0,
+            Refusal::Instruction(place)
+            | Refusal::Guard(place)
+            | Refusal::Range(place)
+            | Refusal::Held(place)
+            | Refusal::Malformed(place) => place,
+            _ => 0,
         }
     }
 }
 
 impl Registers {
+    #[tactic(auto, unfolding(crate::specs::Parts::register_of))]
     pub fn get(self, i: u8) -> u32
         ensures { result ≡ register_of self i }
     {
@@ -215,6 +189,7 @@ impl Registers {
         }
     }
 
+    #[tactic(auto, unfolding(crate::specs::Parts::with_register))]
     pub fn with(mut self, i: u8, x: u32) -> Registers
         ensures { result ≡ with_register self i x }
     {
@@ -230,64 +205,58 @@ impl Registers {
 
 // What the instructions that touch no word do to the registers.
 impl Registers {
+    #[tactic(auto, unfolding(crate::specs::Instr::set_of))]
     pub fn set(self, i: Instr) -> Registers
         ensures { result ≡ set_of i self }
     {
-        let b = i.b;
-        let c = i.c;
-        self.with(i.a, (b as u32) + 256 * (c as u32))
+        self.with(i.a, u32::from(i.b) + 256 * u32::from(i.c))
     }
 
+    #[tactic(auto, unfolding(crate::specs::Instr::add_of))]
     pub fn add(self, i: Instr) -> Registers
         ensures { result ≡ add_of i self }
     {
-        let x = self.get(i.a);
-        let y = self.get(i.b);
-        let sum = std::num::wrapping_add_u32(x, y);
-        self.with(i.a, sum)
+        self.with(i.a, self.get(i.a).wrapping_add(self.get(i.b)))
     }
 
+    #[tactic(auto, unfolding(crate::specs::Instr::sub_of))]
     pub fn sub(self, i: Instr) -> Registers
         ensures { result ≡ sub_of i self }
     {
-        let x = self.get(i.a);
-        let y = self.get(i.b);
-        let rest = std::num::wrapping_sub_u32(x, y);
-        self.with(i.a, rest)
+        self.with(i.a, self.get(i.a).wrapping_sub(self.get(i.b)))
     }
 
     // How many instructions a skip passes over.
+    #[tactic(auto, unfolding(crate::specs::Instr::over_of))]
     pub fn over(self, i: Instr) -> u8
         ensures { result ≡ over_of i self }
     {
-        let x = self.get(i.a);
-        let y = self.get(i.b);
-        if x == y { i.c } else { 0 }
+        if self.get(i.a) == self.get(i.b) {
+            i.c
+        } else {
+            0
+        }
     }
 }
 
 // The eight meanings of an instruction, for a job alone and for a step of the engine. No job that was checked has another op.
 impl Instr {
     // The word that a load, a store or a cam names.
+    #[tactic(auto, unfolding(crate::specs::Instr::word_of))]
     pub fn word(self) -> u8
         ensures { result ≡ word_of self }
     {
-        let op = self.op;
-        match op {
-            4 => self.c,
-            _ => self.b,
-        }
+        if self.op == 4 { self.c } else { self.b }
     }
 
+    #[tactic(auto, unfolding(crate::specs::Instr::asks_of))]
     pub fn asks(self, r: Registers) -> Asks
         ensures { result ≡ asks_of self r }
     {
-        let op = self.op;
-        match op {
+        match self.op {
             0 => Asks::Halt(self.a == 1),
             1 => Asks::Go(r.set(self), 0),
-            2 => Asks::Touch(self.b),
-            3 => Asks::Touch(self.b),
+            2 | 3 => Asks::Touch(self.b),
             4 => Asks::Touch(self.c),
             5 => Asks::Go(r.add(self), 0),
             6 => Asks::Go(r.sub(self), 0),
@@ -296,20 +265,15 @@ impl Instr {
         }
     }
 
+    #[tactic(auto, unfolding(crate::specs::Instr::follows_of))]
     pub fn follows(self, r: Registers, value: u32) -> Follows
         ensures { result ≡ follows_of self r value }
     {
-        let op = self.op;
-        match op {
+        match self.op {
             2 => Follows::Done(r.with(self.a, value)),
             3 => Follows::Swap(r.get(self.a)),
-            _ => {
-                let x = r.get(self.a);
-                if x == value {
-                    return Follows::Swap(r.get(self.b));
-                }
-                Follows::Done(r)
-            }
+            _ if r.get(self.a) == value => Follows::Swap(r.get(self.b)),
+            _ => Follows::Done(r),
         }
     }
 }
@@ -325,19 +289,16 @@ impl Word {
     }
 
     // A word whose value and count are those of the entry takes the new value, and its count rises by one. Any other stays.
+    #[tactic(auto, unfolding(crate::specs::Parts::swap_of))]
     pub fn swap(self, entry: Reading, new: u32) -> Word
         ensures { result ≡ swap_of self entry new }
     {
-        if self.value == entry.value {
-            if self.count == entry.count {
-                let next = std::num::wrapping_add_u32(self.count, 1);
-                return Word {
-                    value: new,
-                    count: next,
-                    guard: self.guard,
-                };
-            }
-            return self;
+        if self.reading() == entry {
+            return Word {
+                value: new,
+                count: self.count.wrapping_add(1),
+                guard: self.guard,
+            };
         }
         self
     }
@@ -345,92 +306,66 @@ impl Word {
 
 impl Entry {
     // An empty entry takes what was read; a filled one stays.
+    #[tactic(auto, unfolding(crate::specs::Parts::committed_of))]
     pub fn commit(self, read: Reading) -> Entry
         ensures { result ≡ committed_of self read }
     {
-        let s = self.fill;
-        match s {
-            Fill::Empty => Entry {
-                fill: Fill::Filled(read),
-            },
-            Fill::Filled(_) => self,
+        Entry {
+            fill: self.fill.or(Some(read)),
         }
     }
 
     // What the entry holds once `read` was committed to it.
+    #[tactic(auto, unfolding(crate::specs::Parts::holds_of))]
     pub fn holds(self, read: Reading) -> Reading
         ensures { result ≡ holds_of self read }
     {
-        let s = self.fill;
-        match s {
-            Fill::Empty => read,
-            Fill::Filled(first) => first,
-        }
+        self.fill.unwrap_or(read)
     }
 
     // Whether a commit to it is the first: the one that fills it.
+    #[tactic(auto, unfolding(crate::specs::Parts::is_first))]
     pub fn is_first(self) -> bool
         ensures { result ≡ is_first self }
     {
-        let s = self.fill;
-        match s {
-            Fill::Empty => true,
-            Fill::Filled(_) => false,
-        }
+        self.fill.is_none()
     }
 }
 
 impl LockWord {
     // Free at the last turn: it can't be won any more.
+    #[tactic(auto, unfolding(crate::specs::Parts::worn_of))]
     pub fn worn(self) -> bool
         ensures { result ≡ worn_of self }
     {
-        let h = self.holder;
-        match h {
-            Holder::Free => self.turn == LAST_TURN,
-            Holder::By(_) => false,
-        }
+        self.holder.is_none() && self.turn == LAST_TURN
     }
 
     // Still free at the turn that Look saw: the next turn, held by the sheet. Any other stays.
+    #[tactic(auto, unfolding(crate::specs::Parts::grab_of))]
     pub fn grab(self, seen: u32, sheet: u8) -> LockWord
         ensures { result ≡ grab_of self seen sheet }
     {
-        let h = self.holder;
-        match h {
-            Holder::Free => {
-                if self.turn == seen {
-                    let next = std::num::wrapping_add_u32(self.turn, 1);
-                    return LockWord {
-                        turn: next,
-                        holder: Holder::By(sheet),
-                    };
-                }
-                self
-            }
-            Holder::By(_) => self,
+        if self.holder.is_none() && self.turn == seen {
+            return LockWord {
+                turn: self.turn.wrapping_add(1),
+                holder: Some(sheet),
+            };
         }
+        self
     }
 
     // Held by the sheet at the turn under which it won: free with the same turn. Any other stays.
+    #[tactic(auto, unfolding(crate::specs::Parts::release_of))]
     pub fn release(self, won: u32, sheet: u8) -> LockWord
         ensures { result ≡ release_of self won sheet }
     {
-        let h = self.holder;
-        match h {
-            Holder::Free => self,
-            Holder::By(s) => {
-                if s == sheet {
-                    if self.turn == won {
-                        return LockWord {
-                            turn: self.turn,
-                            holder: Holder::Free,
-                        };
-                    }
-                    return self;
-                }
-                self
-            }
+        if self.holder == Some(sheet) && self.turn == won {
+            return LockWord {
+                turn: self.turn,
+                holder: None,
+            };
         }
+        self
     }
 }

@@ -1,4 +1,5 @@
 -- A step keeps the ranges of the pieces that it can touch.
+use Rattle.std.specs.Prelude.{None, Option, Some}
 use Prim.Native.Nat.{ℕ, ◌+◌, ◌%◌, ◌^◌, ◌≤◌, ◌<◌}
 use native.Mathlib.Omega.{arith}
 use mathlib.Core.Path.{◌≡◌, refl}
@@ -9,17 +10,13 @@ use Rattle.parts.specs.Instr.{asks_of, follows_of, on_asks, on_follows, set_of, 
 use Rattle.parts.specs.Numbers.{sheets, last_turn}
 use Rattle.parts.specs.Parts as parts
 use Rattle.parts.specs.Parts.{register_of, with_register, committed_of, holds_of, is_first, reading_of, next32}
-use Rattle.parts.specs.Pick.{pick, on_holder, on_fill}
+use Rattle.parts.specs.Pick.{pick, on_option}
 use Rattle.parts.specs.declared.Answer.TheVariants.{NotTaken, Worn}
 use Rattle.parts.specs.declared.Asks.{Asks}
 use Rattle.parts.specs.declared.Asks.TheVariants.{Halt, Go, Touch}
 use Rattle.parts.specs.declared.Entry.{Entry}
-use Rattle.parts.specs.declared.Fill.{Fill}
-use Rattle.parts.specs.declared.Fill.TheVariants.{Empty, Filled}
 use Rattle.parts.specs.declared.Follows.{Follows}
 use Rattle.parts.specs.declared.Follows.TheVariants as follows
-use Rattle.parts.specs.declared.Holder.{Holder}
-use Rattle.parts.specs.declared.Holder.TheVariants.{Free, By}
 use Rattle.parts.specs.declared.Instr.{Instr}
 use Rattle.parts.specs.declared.LockWord.{LockWord}
 use Rattle.parts.specs.declared.Reading.{Reading}
@@ -47,16 +44,16 @@ pub record GoodView (locks : ℕ) (v : View) : Type 0 where
 
 -- by the case of a holder, of a fill, of what an instruction asks and of what follows
 holder_all :
-    {A : Type 0} (P : A → Type 0) (h : Holder) (a : A) (f : ℕ → A) →
-    GoodHolder h → P a → ((s : ℕ) → s < sheets → P (f s)) → P (on_holder h a f)
-holder_all P Free a f g p q = p
-holder_all P (By s) a f g p q = q s g
+    {A : Type 0} (P : A → Type 0) (h : Option ℕ) (a : A) (f : ℕ → A) →
+    GoodHolder h → P a → ((s : ℕ) → s < sheets → P (f s)) → P (on_option h a f)
+holder_all P None a f g p q = p
+holder_all P (Some s) a f g p q = q s g
 
 fill_all :
-    {A : Type 0} (P : A → Type 0) (h : Fill) (a : A) (f : Reading → A) →
-    GoodFill h → P a → ((r : Reading) → GoodReading r → P (f r)) → P (on_fill h a f)
-fill_all P Empty a f g p q = p
-fill_all P (Filled r) a f g p q = q r g
+    {A : Type 0} (P : A → Type 0) (h : Option Reading) (a : A) (f : Reading → A) →
+    GoodFill h → P a → ((r : Reading) → GoodReading r → P (f r)) → P (on_option h a f)
+fill_all P None a f g p q = p
+fill_all P (Some r) a f g p q = q r g
 
 GoodAsks : Asks → Type 0
 GoodAsks (Halt said) = Unit {0}
@@ -131,7 +128,7 @@ grab_good l seen s g h k =
     holder_all GoodLock l.holder _ (λ t. l) g.holder (won (eqb l.turn seen) refl) (λ t q. g)
   where
     won :
-        (b : Bool) → eqb l.turn seen ≡ b → GoodLock (pick b (record { turn = next32 l.turn; holder = By s }) l)
+        (b : Bool) → eqb l.turn seen ≡ b → GoodLock (pick b (record { turn = next32 l.turn; holder = Some s }) l)
     won true e = let q = eqb-true l.turn seen e in record { turn = omega arith; holder = k }
     won false e = g
 
@@ -141,7 +138,7 @@ release_good l won s g =
     holder_all GoodLock l.holder l _ g.holder g
     (λ t q.
     pick_all GoodLock (eqb t s) _ l
-    (pick_all GoodLock (eqb l.turn won) (record { turn = l.turn; holder = Free }) l
+    (pick_all GoodLock (eqb l.turn won) (record { turn = l.turn; holder = None }) l
     (record { turn = g.turn; holder = tt }) g) g)
 
 -- words and log entries
@@ -154,7 +151,7 @@ swap_good L w r new g h =
 
 committed_good : (e : Entry) (r : Reading) → GoodEntry e → GoodReading r → GoodEntry (committed_of e r)
 unfolding committed_of
-committed_good e r g h = fill_all GoodEntry e.fill (record { fill = Filled r }) (λ first. e) g h (λ first q. g)
+committed_good e r g h = fill_all GoodEntry e.fill (record { fill = Some r }) (λ first. e) g h (λ first q. g)
 
 holds_good : (e : Entry) (r : Reading) → GoodEntry e → GoodReading r → GoodReading (holds_of e r)
 unfolding holds_of

@@ -1,4 +1,5 @@
 -- What holds at every place of a list holds after a change of it, and what holds of each way holds of the way that is picked.
+use Rattle.std.specs.Prelude.{Err, Ok}
 use Prim.Native.Nat.{ℕ, zero, suc, ◌+◌}
 use mathlib.Core.Path.{◌≡◌, refl}
 use mathlib.Core.Bool.{Bool, true, false}
@@ -9,8 +10,7 @@ use Rattle.parts.specs.Pick.{pick}
 use Rattle.parts.specs.Told.{on_told}
 use Rattle.parts.specs.declared.Answer.{Answer}
 use Rattle.parts.specs.declared.Refusal.{Refusal}
-use Rattle.parts.specs.declared.Told.{Told}
-use Rattle.parts.specs.declared.Told.TheVariants.{Accepted, Refused}
+use Rattle.parts.specs.Told.{Told}
 use Rattle.steps.specs.Worker.{on_state}
 use Rattle.steps.specs.declared.Point.{Point}
 use Rattle.steps.specs.declared.State.{State}
@@ -70,6 +70,6 @@ state_all P (Finished x) a f g h k m = m x refl
 -- of a call: where it was accepted; where it was refused
 pub told_all :
     {A : Type 0} (P : A → Type 0) (t : Told) (a : A) (f : Refusal → A) →
-    (t ≡ Accepted → P a) → ((r : Refusal) → t ≡ Refused r → P (f r)) → P (on_told t a f)
-told_all P Accepted a f h k = h refl
-told_all P (Refused r) a f h k = k r refl
+    (t ≡ Ok tt → P a) → ((r : Refusal) → t ≡ Err r → P (f r)) → P (on_told t a f)
+told_all P (Ok _) a f h k = h refl
+told_all P (Err r) a f h k = k r refl

@@ -1,4 +1,5 @@
 -- What setup makes of the fields of its record: words with its guards and values, free locks at its turns.
+use Rattle.std.specs.Prelude.{None}
 use Prim.Native.Nat.{ℕ, zero, suc, ◌+◌, ◌%◌, ◌≤◌}
 use native.Mathlib.Omega.{arith}
 use mathlib.Core.Path.{◌≡◌, refl, ◌∙◌, sym, ap}
@@ -8,7 +9,6 @@ use Rattle.arrays.specs.Fresh.{words_from, free_at, guards_of, values_of, turns_
 use Rattle.parts.specs.Lay.{lay}
 use Rattle.parts.specs.Numbers.{most_locks, most_words}
 use Rattle.parts.specs.Parts.{word0, lock0}
-use Rattle.parts.specs.declared.Holder.TheVariants.{Free}
 use Rattle.records.specs.Setup.{locks_field, words_field, guards_field, values_field, turns_field}
 use Rattle.engine.specs.State.{locks_of, words_of}
 use Rattle.engine.specs.Calls.{fresh_of}
@@ -40,7 +40,7 @@ counts_from (g ∷ guards) [] k = refl
 counts_from (g ∷ guards) (v ∷ values) zero = refl
 counts_from (g ∷ guards) (v ∷ values) (suc k) = counts_from guards values k
 
-free_from : (turns : List ℕ) → All (λ l. l.holder ≡ Free) (map free_at turns) lock0
+free_from : (turns : List ℕ) → All (λ l. l.holder ≡ None) (map free_at turns) lock0
 free_from [] k = refl
 free_from (t ∷ turns) zero = refl
 free_from (t ∷ turns) (suc k) = free_from turns k
@@ -82,8 +82,8 @@ fresh_counts rec =
     lay_all (λ w. w.count ≡ 0) 0 _ _ word0 (counts_from (guards_field rec) (values_field rec))
     (replicate_all (λ w. w.count ≡ 0) most_words word0 refl)
 
-pub fresh_free : (rec : List ℕ) → All (λ l. l.holder ≡ Free) (fresh_of rec).lock lock0
+pub fresh_free : (rec : List ℕ) → All (λ l. l.holder ≡ None) (fresh_of rec).lock lock0
 unfolding fresh_of
 fresh_free rec =
-    lay_all (λ l. l.holder ≡ Free) 0 _ _ lock0 (free_from (turns_field rec))
-    (replicate_all (λ l. l.holder ≡ Free) most_locks lock0 refl)
+    lay_all (λ l. l.holder ≡ None) 0 _ _ lock0 (free_from (turns_field rec))
+    (replicate_all (λ l. l.holder ≡ None) most_locks lock0 refl)

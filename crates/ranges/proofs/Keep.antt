@@ -1,4 +1,5 @@
 -- Every call keeps `Good`: the blank state has it, and each call gives a state that has it.
+use Rattle.std.specs.Prelude.{Ok}
 use Prim.Native.Nat.{ℕ, ◌≤◌}
 use native.Mathlib.Omega.{arith}
 use mathlib.Core.Path.{◌≡◌, refl, ◌∙◌, subst}
@@ -8,8 +9,7 @@ use lib.ListN.{replicate, length-set, length-replicate}
 use Rattle.parts.specs.Lay.{lay}
 use Rattle.parts.specs.Numbers.{workers, most_locks, most_words, sheets, instructions, entries}
 use Rattle.parts.specs.Parts.{instr0, entry0, lock0, word0}
-use Rattle.parts.specs.declared.Told.{Told}
-use Rattle.parts.specs.declared.Told.TheVariants.{Accepted}
+use Rattle.parts.specs.Told.{Told}
 use Rattle.parts.proofs.Lay.{length-lay}
 use Rattle.records.specs.Bytes.{AllBytes}
 use Rattle.records.specs.Job.{job_of}
@@ -24,7 +24,7 @@ use Rattle.engine.specs.State.{sheet0, blank_of, worker_at, free_sheet, base_of,
 use Rattle.engine.specs.Step.{places_of, view_at, put_at, stepped_of}
 use Rattle.engine.specs.Calls.{outcome_of, fresh_of, setup_of, begun_of, begin_told, begin_of, step_told, onward_of, step_of, collect_told, collect_of, drop_told, drop_of}
 use Rattle.engine.specs.Inner.{Begins}
-use Rattle.engine.specs.declared.Collected.{Collected}
+use Rattle.engine.specs.Calls.{Collected}
 use Rattle.engine.specs.declared.Engine.{Engine}
 use Rattle.engine.specs.declared.Outcome.{Outcome}
 use Rattle.ranges.specs.Good.{GoodPoint, GoodState, GoodLock, GoodWord, GoodInstr, GoodEntry, GoodSheet, GoodWorker, Good}
@@ -67,11 +67,11 @@ good_blank =
 
 -- a call that tells `told` on state e, and gives the state `next` where it is accepted
 outcome_good :
-    (e : Engine) (told : Told) (next : Engine) → Good e → (told ≡ Accepted → Good next) → Good (outcome_of e told next).engine
+    (e : Engine) (told : Told) (next : Engine) → Good e → (told ≡ Ok tt → Good next) → Good (outcome_of e told next).engine
 outcome_good e told next g h =
     told_all (λ (o : Outcome). Good o.engine) told _ (λ r. record { engine = e; told = _ }) h (λ r q. g)
 
-fresh_good : (rec : List ℕ) → AllBytes rec → setup_told rec ≡ Accepted → Good (fresh_of rec)
+fresh_good : (rec : List ℕ) → AllBytes rec → setup_told rec ≡ Ok tt → Good (fresh_of rec)
 unfolding fresh_of blank_of
 fresh_good rec b h =
     let z = setup_sized rec h in

@@ -1,4 +1,5 @@
 -- What is known of the pieces that an accepted begin or setup takes out of its record.
+use Rattle.std.specs.Prelude.{Ok}
 use Prim.Native.Nat.{ℕ, zero, suc, ◌+◌, ◌-◌, ◌*◌, ◌≤◌}
 use native.Mathlib.Omega.{arith}
 use mathlib.Core.Path.{◌≡◌}
@@ -8,7 +9,6 @@ use lib.ListN.{length, drop, get_or-eq_default}
 use Rattle.arrays.specs.Fresh.{words_from, free_at}
 use Rattle.parts.specs.Numbers.{last_turn}
 use Rattle.parts.specs.Parts.{instr0, lock0, word0}
-use Rattle.parts.specs.declared.Told.TheVariants.{Accepted}
 use Rattle.parts.proofs.Order.{below_or_not}
 use Rattle.records.specs.Bytes.{AllBytes, u32s_of}
 use Rattle.records.specs.Job.{instrs_of, job_of}
@@ -70,7 +70,7 @@ locks_good (t ∷ turns) h (suc k) = locks_good turns (λ j. h (suc j)) k
 
 -- what setup reads
 pub setup_words :
-    (rec : List ℕ) → AllBytes rec → setup_told rec ≡ Accepted →
+    (rec : List ℕ) → AllBytes rec → setup_told rec ≡ Ok tt →
     All (GoodWord (locks_field rec)) (words_from (guards_field rec) (values_field rec)) word0
 setup_words rec b h =
     let z = setup_sized rec h in
@@ -84,5 +84,5 @@ setup_words rec b h =
         (λ q. omega (arith, get_or-eq_default (guards_field rec) 0 q))
         (below_or_not k (length (guards_field rec)))
 
-pub setup_locks : (rec : List ℕ) → setup_told rec ≡ Accepted → All GoodLock (map free_at (turns_field rec)) lock0
+pub setup_locks : (rec : List ℕ) → setup_told rec ≡ Ok tt → All GoodLock (map free_at (turns_field rec)) lock0
 setup_locks rec h = locks_good (turns_field rec) (turns_below (turns_field rec) _ (setup_sized rec h).turns)

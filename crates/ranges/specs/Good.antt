@@ -1,13 +1,9 @@
 -- Turns at most 67,108,864, values of 32 bits, every index in its range: the ranges that hold in every state that the calls gave.
 -- What is said of an element is said at every place, past the end too, where the array has its first values.
-use Rattle.std.specs.Prelude.{ℕ, ◌-◌, ◌^◌, ◌≤◌, ◌<◌, ◌≡◌, ◌⊎◌, length, get_or}
+use Rattle.std.specs.Prelude.{ℕ, ◌-◌, ◌^◌, ◌≤◌, ◌<◌, ◌≡◌, ◌⊎◌, length, get_or, None, Option, Some}
 use Rattle.parts.specs.Numbers.{workers, most_locks, most_words, sheets, instructions, entries, last_turn}
 use Rattle.parts.specs.Parts.{instr0, entry0, lock0, word0}
 use Rattle.parts.specs.declared.Entry.{Entry}
-use Rattle.parts.specs.declared.Fill.{Fill}
-use Rattle.parts.specs.declared.Fill.TheVariants.{Empty, Filled}
-use Rattle.parts.specs.declared.Holder.{Holder}
-use Rattle.parts.specs.declared.Holder.TheVariants.{Free, By}
 use Rattle.parts.specs.declared.Instr.{Instr}
 use Rattle.parts.specs.declared.LockWord.{LockWord}
 use Rattle.parts.specs.declared.Reading.{Reading}
@@ -35,9 +31,9 @@ abbrev pub Byte : ℕ → Type 0
 Byte n = n < 256
 
 -- "either free or held by a named sheet"
-abbrev pub GoodHolder : Holder → Type 0
-GoodHolder Free = Unit {0}
-GoodHolder (By s) = s < sheets
+abbrev pub GoodHolder : Option ℕ → Type 0
+GoodHolder None = Unit {0}
+GoodHolder (Some s) = s < sheets
 
 -- "Turns run from 0 to 67,108,864"
 pub record GoodLock (l : LockWord) : Type 0 where
@@ -67,9 +63,9 @@ pub record GoodInstr (i : Instr) : Type 0 where
   pub b : Byte i.b
   pub c : Byte i.c
 
-abbrev pub GoodFill : Fill → Type 0
-GoodFill Empty = Unit {0}
-GoodFill (Filled r) = GoodReading r
+abbrev pub GoodFill : Option Reading → Type 0
+GoodFill None = Unit {0}
+GoodFill (Some r) = GoodReading r
 
 abbrev pub GoodEntry : Entry → Type 0
 GoodEntry e = GoodFill e.fill

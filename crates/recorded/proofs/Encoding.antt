@@ -1,4 +1,5 @@
 -- Call records have one encoding: what is written is accepted and read back, and an accepted record is the record of its call.
+use Rattle.std.specs.Prelude.{Err, Ok}
 use Prim.Native.Nat.{ℕ, zero, suc, ◌+◌, ◌-◌, ◌*◌, ◌/◌, ◌%◌, ◌≤◌, ◌<◌}
 use mathlib.Core.Path.{◌≡◌, refl, ◌∙◌, sym, ap}
 use mathlib.Core.Bool.{Bool, true, false}
@@ -11,8 +12,7 @@ use borrow.Author.Tests.{eq-eqb, le-ltb, ltb-false, eqb-true, eqb-false}
 use Rattle.parts.specs.Numbers.{instructions}
 use Rattle.parts.specs.Pick.{pick, ◌isnt◌}
 use Rattle.parts.specs.Told.{on_told, first_of}
-use Rattle.parts.specs.declared.Told.{Told}
-use Rattle.parts.specs.declared.Told.TheVariants.{Accepted, Refused}
+use Rattle.parts.specs.Told.{Told}
 use Rattle.parts.proofs.Laws.{pick_eq, pick_ne}
 use Rattle.parts.proofs.Order.{not_isnt}
 use Rattle.records.specs.Bytes.{AllBytes, length_field, kind_field, length_told, header}
@@ -27,7 +27,7 @@ use Rattle.calls.proofs.Laws.{Holds, holds, other_record}
 use Rattle.recorded.specs.Recorded.{is_written, in_bytes}
 
 -- a record whose fields hold is accepted
-accepts : (s : List ℕ) → Holds s → record_told s ≡ Accepted
+accepts : (s : List ℕ) → Holds s → record_told s ≡ Ok tt
 unfolding record_told bad_head
 accepts s h =
     let n = h.least in
@@ -67,7 +67,7 @@ module _ (call w l : ℕ) (code rest : List ℕ) (m : 8 + length code < 65536) w
   }
 
 -- a begin's bytes are a job record
-module _ (rec : List ℕ) (h : first_of (form_order forms rec) ≡ Accepted) where
+module _ (rec : List ℕ) (h : first_of (form_order forms rec) ≡ Ok tt) where
   form : Formed rec
   form = formed rec h
 
@@ -104,19 +104,19 @@ module _ (rec : List ℕ) (h : first_of (form_order forms rec) ≡ Accepted) whe
         form.told (form.kind ∙ ap kind_for count) (kind_byte ((length_field begun - 8) / 4)) e t
 
 -- a call that has a record
-written_form : (w l : ℕ) (rec : List ℕ) → is_written (Begin w l rec) ≡ true → first_of (form_order forms rec) ≡ Accepted
+written_form : (w l : ℕ) (rec : List ℕ) → is_written (Begin w l rec) ≡ true → first_of (form_order forms rec) ≡ Ok tt
 unfolding is_written
 written_form w l rec h = go (first_of (form_order forms rec)) refl h
   where
     go :
         (t : Told) → first_of (form_order forms rec) ≡ t → on_told {A = Bool} t true (λ r. false) ≡ true →
-        first_of (form_order forms rec) ≡ Accepted
-    go Accepted e k = e
-    go (Refused r) e k = let z : ◌≡◌ {A = ℕ} 0 1 = cc in absurd (omega arith)
+        first_of (form_order forms rec) ≡ Ok tt
+    go (Ok _) e k = e
+    go (Err r) e k = let z : ◌≡◌ {A = ℕ} 0 1 = cc in absurd (omega arith)
 
 pub read_back :
     (c : Call) (rest : List ℕ) → AllRecords (c ∷ []) → is_written c ≡ true →
-    (record_told (call_record c ++ rest) ≡ Accepted) ×
+    (record_told (call_record c ++ rest) ≡ Ok tt) ×
     (length_field (call_record c ++ rest) ≡ length (call_record c)) ×
     (call_in (call_record c ++ rest) ≡ in_bytes c)
 unfolding call_record in_bytes call_with record_with AllRecords is_written
@@ -154,7 +154,7 @@ halves : (n lo hi : ℕ) → n ≡ lo + 256 * hi → lo < 256 → hi < 256 → (
 halves n lo hi e k l = let d : n / 256 ≡ hi = omega arith in (omega arith, omega arith)
 
 -- an accepted record of bytes is its eight bytes and its instructions
-module _ (s : List ℕ) (b : AllBytes s) (h : record_told s ≡ Accepted) where
+module _ (s : List ℕ) (b : AllBytes s) (h : record_told s ≡ Ok tt) where
   abbrev code_in : List ℕ
   code_in = take (length_field s - 8) (drop 8 s)
 
@@ -236,7 +236,7 @@ field_of : (n : ℕ) → n < 65536 → n % 256 + 256 * (n / 256 % 256) ≡ n
 field_of n k = omega arith
 
 -- the job record of an accepted begin's record
-module _ (s : List ℕ) (b : AllBytes s) (h : record_told s ≡ Accepted) where
+module _ (s : List ℕ) (b : AllBytes s) (h : record_told s ≡ Ok tt) where
   job_bytes_lem : AllBytes (job_in s)
   unfolding job_in
   job_bytes_lem =
@@ -256,13 +256,13 @@ module _ (s : List ℕ) (b : AllBytes s) (h : record_told s ≡ Accepted) where
   unfolding job_in
   job_kind = kind_field_lem (length_field s - 4) (kind_for ((length_field s - 8) / 4)) (take (length_field s - 8) (drop 8 s))
 
-  job_form : call_field s ≡ 0 → first_of (form_order forms (job_in s)) ≡ Accepted
+  job_form : call_field s ≡ 0 → first_of (form_order forms (job_in s)) ≡ Ok tt
   job_form z =
       let n = no_job_length 1 instructions (length_field s - 4) in
       let size = length_in 1 instructions (length_field s - 4) (pick_eq (call_field s) 0 n n _ z refl ∙ (holds s h).size) in
       let count : length (job_of (job_in s)) ≡ (length_field s - 8) / 4 =
       instrs_length (drop 4 (job_in s)) ∙ omega (arith, length-drop 4 (job_in s), job_length) in
-      let told : length_told (job_in s) ≡ Accepted =
+      let told : length_told (job_in s) ≡ Ok tt =
       simp (
         le-ltb (length (job_in s)) 4 (omega (arith, job_length, (holds s h).least)),
         eq-eqb (length_field (job_in s)) (length (job_in s)) job_field,
@@ -278,12 +278,12 @@ module _ (s : List ℕ) (b : AllBytes s) (h : record_told s ≡ Accepted) where
 
 -- a call of these numbers has a record, and its record is of bytes
 call_written :
-    (c w l : ℕ) (rec : List ℕ) → (c ≡ 0 → first_of (form_order forms rec) ≡ Accepted) → is_written (call_with c w l rec) ≡ true
+    (c w l : ℕ) (rec : List ℕ) → (c ≡ 0 → first_of (form_order forms rec) ≡ Ok tt) → is_written (call_with c w l rec) ≡ true
 unfolding call_with is_written
 call_written c w l rec f = go (eqb c 0) (eqb c 1) (eqb c 2) (λ e. f (eqb-true c 0 e))
   where
     go :
-        (p q r : Bool) → (p ≡ true → first_of (form_order forms rec) ≡ Accepted) →
+        (p q r : Bool) → (p ≡ true → first_of (form_order forms rec) ≡ Ok tt) →
         is_written (pick p (Begin w l rec) (pick q (Step w) (pick r (Collect w) (Drop w)))) ≡ true
     go true q r f = simp (f refl)
     go false true r f = refl
@@ -301,10 +301,10 @@ call_bytes c w l rec cs b h = go (eqb c 0) (eqb c 1) (eqb c 2)
     go false false false = h
 
 pub whole_call :
-    (s : List ℕ) → AllBytes s → record_told s ≡ Accepted →
+    (s : List ℕ) → AllBytes s → record_told s ≡ Ok tt →
     (is_written (call_in s) ≡ true) × (take (length_field s) s ≡ call_record (call_in s))
 whole_call s b h =
     (call_written (call_field s) (worker_field s) (lock_field s) (job_in s) (job_form s b h), record_of_call s b h)
 
-pub calls_in : (s : List ℕ) (cs : List Call) → AllBytes s → record_told s ≡ Accepted → AllRecords cs → AllRecords (call_in s ∷ cs)
+pub calls_in : (s : List ℕ) (cs : List Call) → AllBytes s → record_told s ≡ Ok tt → AllRecords cs → AllRecords (call_in s ∷ cs)
 calls_in s cs b h = call_bytes (call_field s) (worker_field s) (lock_field s) (job_in s) cs (job_bytes_lem s b h)

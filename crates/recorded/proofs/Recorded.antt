@@ -1,4 +1,5 @@
 -- The promises of recorded calls.
+use Rattle.std.specs.Prelude.{Err}
 use Prim.Native.Nat.{ℕ, ◌≤◌, ◌<◌}
 use mathlib.Core.Path.{◌≡◌, ◌∙◌, sym, ap, ap₂}
 use mathlib.Core.List.{List, [], ◌++◌, append_assoc, append-nil}
@@ -13,7 +14,6 @@ use Rattle.records.specs.Bytes.{length_field}
 use Rattle.calls.specs.Record.{record_told, call_record}
 use Rattle.files.proofs.Walks.{walk_refused}
 use Rattle.parts.specs.declared.Refusal.{Refusal}
-use Rattle.parts.specs.declared.Told.TheVariants.{Refused}
 use Rattle.engine.specs.declared.Engine.{Engine}
 use Rattle.recorded.specs.Recorded.{records_of, file_of, lines_along, OneEncoding, RecordWriter, NothingLost, IsFile, Replays}
 use Rattle.recorded.proofs.Encoding.{read_back, whole_call}
@@ -68,7 +68,7 @@ module _ (setup : List ℕ) (cs : List Call) where
           ap₂ (λ (t : List ℕ) (n : ℕ). t ++ lines_text n (walk_from 0 left rest).lines) (sym printed_is) (omega arith)
 
       ends_it :
-          (r : Refusal) → 0 < length rest → record_told rest ≡ Refused r →
+          (r : Refusal) → 0 < length rest → record_told rest ≡ Err r →
           (printed_of (file_of setup cs ++ rest) ≡ printed_of (file_of setup cs) ++ line_text (length told) (refused_line r)) ×
           (replayed_state (file_of setup cs ++ rest) ≡ left)
       unfolding lines_text

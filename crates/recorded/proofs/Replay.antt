@@ -1,4 +1,5 @@
 -- A file's records are walked as their calls are made directly, whatever follows them.
+use Rattle.std.specs.Prelude.{Err, Ok}
 use Prim.Native.Nat.{ℕ, zero, suc, ◌+◌, ◌≤◌}
 use mathlib.Core.Path.{◌≡◌, refl, ◌∙◌, sym, ap, ap₂}
 use mathlib.Core.Bool.{Bool, true, false}
@@ -8,8 +9,7 @@ use lib.ListN.{length, take, drop, length-drop, length-append, take-append-drop}
 use lib.Seq.{take-append_seam, drop-append_seam}
 use borrow.Author.Tests.{le-ltb}
 use Rattle.parts.specs.Pick.{pick}
-use Rattle.parts.specs.declared.Told.{Told}
-use Rattle.parts.specs.declared.Told.TheVariants.{Accepted, Refused}
+use Rattle.parts.specs.Told.{Told}
 use Rattle.records.specs.Bytes.{AllBytes, length_field, length_told}
 use Rattle.records.specs.Setup.{setup_told}
 use Rattle.records.proofs.Laws.{length_known}
@@ -117,10 +117,10 @@ records_both (c ∷ cs) more =
 
 -- a setup record that setup accepts is as long as its length field says
 outcome_told : (e x : Engine) (t : Told) → (outcome_of e t x).told ≡ t
-outcome_told e x Accepted = refl
-outcome_told e x (Refused r) = refl
+outcome_told e x (Ok _) = refl
+outcome_told e x (Err r) = refl
 
-setup_length_lem : (setup : List ℕ) → (setup_of setup).told ≡ Accepted → (4 ≤ length setup) × (length_field setup ≡ length setup)
+setup_length_lem : (setup : List ℕ) → (setup_of setup).told ≡ Ok tt → (4 ≤ length setup) × (length_field setup ≡ length setup)
 unfolding setup_of
 setup_length_lem setup h =
     let t = sym (outcome_told blank_of (fresh_of setup) (setup_told setup)) ∙ h in
@@ -164,7 +164,7 @@ module _ (setup : List ℕ) (cs : List Call) (rest : List ℕ) (f : IsFile setup
       let n : length_field file ≤ length file = omega (arith, field, ap length file_is, length-append setup (records_of cs ++ rest)) in
       simp (le-ltb most_file (length file) m, le-ltb (length file) 2 (omega (arith, n, field, size.0)), le-ltb (length file) (length_field file) n)
 
-  is_accepted : (setup_of (take (length_field file) file)).told ≡ Accepted
+  is_accepted : (setup_of (take (length_field file) file)).told ≡ Ok tt
   is_accepted = ap (λ (s : List ℕ). (setup_of s).told) front ∙ f.accepted
 
   pub printed : length file ≤ most_file → printed_of file ≡ lines_text 0 told_all.lines
@@ -206,9 +206,9 @@ splits (suc n) (x ∷ s) k b =
   where
     go :
         (t : Told) → record_told (x ∷ s) ≡ t →
-        (record_told (x ∷ s) ≡ Accepted → Split (drop (length_field (x ∷ s)) (x ∷ s))) → Split (x ∷ s)
-    go (Refused r) e next = record { calls = []; rest = x ∷ s; bytes = tt; is = refl; ends = λ h. (r, e) }
-    go Accepted e next =
+        (record_told (x ∷ s) ≡ Ok tt → Split (drop (length_field (x ∷ s)) (x ∷ s))) → Split (x ∷ s)
+    go (Err r) e next = record { calls = []; rest = x ∷ s; bytes = tt; is = refl; ends = λ h. (r, e) }
+    go (Ok _) e next =
         let later = next e in
         let c = whole_call (x ∷ s) b e in
         record {

@@ -1,5 +1,6 @@
 -- A worker or lock above 255 is none, and neither is 255: the call gets the same answer. What the writer does to a buffer. A begin that
 -- has no record is refused.
+use Rattle.std.specs.Prelude.{Err, Ok}
 use Prim.Native.Nat.{ℕ, ◌+◌, ◌-◌, ◌≤◌}
 use mathlib.Core.Path.{◌≡◌, refl, ◌∙◌, sym, ap}
 use mathlib.Core.Bool.{Bool, true, false}
@@ -14,18 +15,15 @@ use Rattle.parts.specs.Parts.{worn_of}
 use Rattle.parts.specs.Told.{on_told, ◌then◌, refuse_if, first_of}
 use Rattle.parts.specs.declared.Refusal.{Refusal}
 use Rattle.parts.specs.declared.Refusal.TheVariants.{NoWorker, NoLock, LastTurn}
-use Rattle.parts.specs.declared.Told.{Told}
-use Rattle.parts.specs.declared.Told.TheVariants.{Accepted, Refused}
+use Rattle.parts.specs.Told.{Told}
 use Rattle.records.specs.Job.{forms, form_order, job_told}
 use Rattle.records.proofs.Form.{job_stop}
 use Rattle.steps.specs.Worker.{begin_by_state}
 use Rattle.engine.specs.Calls.{write_of, buffer_of, outcome_of, begin_told, taken_of, begin_of, step_of, collect_of, drop_of}
 use Rattle.engine.specs.State.{lock_count, lock_at, words_of, worker_at}
-use Rattle.engine.specs.declared.CollectTold.{CollectTold}
-use Rattle.engine.specs.declared.Collected.{Collected}
+use Rattle.engine.specs.Calls.{Collected}
 use Rattle.engine.specs.declared.Engine.{Engine}
 use Rattle.engine.specs.declared.Outcome.{Outcome}
-use Rattle.engine.specs.declared.WriteTold.{WriteTold}
 use Rattle.past.specs.Past.{Call, Begin, Step, Collect, Drop, ReadWord, ReadLock, Show, Park, after}
 use Rattle.calls.specs.Record.{capped_of, call_with, call_record, write_told, recorded_of, recorded_in}
 use Rattle.calls.proofs.Laws.{record_size, begin_room, other_room, begin_count, other_count}
@@ -48,13 +46,13 @@ byte bound n h = go (leb n 255) refl
 -- an order whose first rows do not name the number, and whose next refuses, is refused: two such calls have one outcome
 refused_then :
     (e x y : Engine) (a b : Told) (r : Refusal) →
-    outcome_of e (a then (b then Refused r)) x ≡ outcome_of e (a then (b then Refused r)) y
-refused_then e x y (Refused s) b r = refl
-refused_then e x y Accepted (Refused s) r = refl
-refused_then e x y Accepted Accepted r = refl
+    outcome_of e (a then (b then Err r)) x ≡ outcome_of e (a then (b then Err r)) y
+refused_then e x y (Err s) b r = refl
+refused_then e x y (Ok _) (Err s) r = refl
+refused_then e x y (Ok _) (Ok _) r = refl
 
 -- the worker, on each of the four
-no_worker : (e : Engine) (w l : ℕ) (rec : List ℕ) → workers ≤ w → begin_of e w l rec ≡ record { engine = e; told = Refused NoWorker }
+no_worker : (e : Engine) (w l : ℕ) (rec : List ℕ) → workers ≤ w → begin_of e w l rec ≡ record { engine = e; told = Err NoWorker }
 unfolding begin_of begin_told
 no_worker e w l rec h = simp (le-leb workers w h)
 
@@ -65,7 +63,7 @@ begin_worker e w l rec = go (byte workers w (omega arith))
     go (is h) = ap (λ (v : ℕ). begin_of e v l rec) h
     go (past h k) = no_worker e (capped_of w) l rec h ∙ sym (no_worker e w l rec k)
 
-no_step : (e : Engine) (v : ℕ) → workers ≤ v → step_of e v ≡ record { engine = e; told = Refused NoWorker }
+no_step : (e : Engine) (v : ℕ) → workers ≤ v → step_of e v ≡ record { engine = e; told = Err NoWorker }
 unfolding step_of
 no_step e v h = simp (le-leb workers v h)
 
@@ -76,7 +74,7 @@ step_worker e w = go (byte workers w (omega arith))
     go (is h) = ap (step_of e) h
     go (past h k) = no_step e (capped_of w) h ∙ sym (no_step e w k)
 
-no_collect : (e : Engine) (v : ℕ) → workers ≤ v → collect_of e v ≡ record { engine = e; told = CollectTold.Refused NoWorker }
+no_collect : (e : Engine) (v : ℕ) → workers ≤ v → collect_of e v ≡ record { engine = e; told = Err NoWorker }
 unfolding collect_of
 no_collect e v h = simp (le-leb workers v h)
 
@@ -87,7 +85,7 @@ collect_worker e w = go (byte workers w (omega arith))
     go (is h) = ap (collect_of e) h
     go (past h k) = no_collect e (capped_of w) h ∙ sym (no_collect e w k)
 
-no_drop : (e : Engine) (v : ℕ) → workers ≤ v → drop_of e v ≡ record { engine = e; told = Refused NoWorker }
+no_drop : (e : Engine) (v : ℕ) → workers ≤ v → drop_of e v ≡ record { engine = e; told = Err NoWorker }
 unfolding drop_of
 no_drop e v h = simp (le-leb workers v h)
 
@@ -102,7 +100,7 @@ drop_worker e w = go (byte workers w (omega arith))
 no_lock_lem :
     (e : Engine) (w k : ℕ) (rec : List ℕ) (x : Engine) → lock_count e ≤ k →
     begin_of e w k rec ≡
-    outcome_of e (refuse_if (leb workers w) NoWorker then (begin_by_state (worker_at e w) then Refused NoLock)) x
+    outcome_of e (refuse_if (leb workers w) NoWorker then (begin_by_state (worker_at e w) then Err NoLock)) x
 unfolding begin_of begin_told
 no_lock_lem e w k rec x h =
     simp (le-leb (lock_count e) k h)
@@ -142,20 +140,20 @@ left_same e (Park room) = refl
 
 -- a writer that is refused
 pub refused_kept :
-    (call w l : ℕ) (rec buf : List ℕ) (r : Refusal) → recorded_of call w l rec (length buf) ≡ WriteTold.Refused r →
+    (call w l : ℕ) (rec buf : List ℕ) (r : Refusal) → recorded_of call w l rec (length buf) ≡ Err r →
     recorded_in call w l rec buf ≡ buf
 unfolding recorded_of recorded_in
 refused_kept call w l rec buf r h = go (write_told call rec (length buf)) h
   where
     go :
-        (t : Told) → write_of t (call_record (call_with call w l rec)) ≡ WriteTold.Refused r →
+        (t : Told) → write_of t (call_record (call_with call w l rec)) ≡ Err r →
         buffer_of t (call_record (call_with call w l rec)) buf ≡ buf
-    go Accepted h = let z : ◌≡◌ {A = ℕ} 0 1 = cc in absurd (omega arith)
-    go (Refused s) h = refl
+    go (Ok _) h = let z : ◌≡◌ {A = ℕ} 0 1 = cc in absurd (omega arith)
+    go (Err s) h = refl
 
 -- one that is accepted: the buffer has room for the record
 record_fits :
-    (call w l : ℕ) (rec : List ℕ) (room : ℕ) → write_told call rec room ≡ Accepted →
+    (call w l : ℕ) (rec : List ℕ) (room : ℕ) → write_told call rec room ≡ Ok tt →
     length (call_record (call_with call w l rec)) ≤ room
 record_fits call w l rec room h = go (eqb call 0) refl
   where
@@ -170,47 +168,47 @@ record_fits call w l rec room h = go (eqb call 0) refl
         omega (arith, n, record_size call w 0 [], other_room call rec room h k)
 
 pub wrote_front :
-    (call w l : ℕ) (rec buf : List ℕ) (n : ℕ) → recorded_of call w l rec (length buf) ≡ WriteTold.Wrote n →
+    (call w l : ℕ) (rec buf : List ℕ) (n : ℕ) → recorded_of call w l rec (length buf) ≡ Ok n →
     (n ≡ length (call_record (call_with call w l rec))) ×
     (recorded_in call w l rec buf ≡ call_record (call_with call w l rec) ++ drop n buf)
 unfolding recorded_of recorded_in
 wrote_front call w l rec buf n h = go (write_told call rec (length buf)) refl h
   where
     go :
-        (t : Told) → write_told call rec (length buf) ≡ t → write_of t (call_record (call_with call w l rec)) ≡ WriteTold.Wrote n →
+        (t : Told) → write_told call rec (length buf) ≡ t → write_of t (call_record (call_with call w l rec)) ≡ Ok n →
         (n ≡ length (call_record (call_with call w l rec))) ×
         (buffer_of t (call_record (call_with call w l rec)) buf ≡ call_record (call_with call w l rec) ++ drop n buf)
-    go Accepted e k =
+    go (Ok _) e k =
         let m : n ≡ length (call_record (call_with call w l rec)) = cc in
         let z : 0 + length (call_record (call_with call w l rec)) ≡ n = omega arith in (
           m,
           lay_is 0 (call_record (call_with call w l rec)) buf (omega (arith, record_fits call w l rec (length buf) e)) ∙
               ap (λ (j : ℕ). call_record (call_with call w l rec) ++ drop j buf) z,
         )
-    go (Refused s) e k = let z : ◌≡◌ {A = ℕ} 0 1 = cc in absurd (omega arith)
+    go (Err s) e k = let z : ◌≡◌ {A = ℕ} 0 1 = cc in absurd (omega arith)
 
 -- a begin that has no record
 pub unwritten_refused :
     (e : Engine) (w l : ℕ) (rec : List ℕ) → is_written (Begin w l rec) ≡ false →
-    ((r : Refusal) × ((begin_of e w l rec).told ≡ Refused r)) × ((begin_of e w l rec).engine ≡ e)
+    ((r : Refusal) × ((begin_of e w l rec).told ≡ Err r)) × ((begin_of e w l rec).engine ≡ e)
 unfolding is_written begin_of begin_told
 unwritten_refused e w l rec h = go (first_of (form_order forms rec)) refl h
   where
     rows :
         (a b c : Told) (s : Refusal) (later : Told) (x : Engine) →
-        ((r : Refusal) × ((outcome_of e (a then (b then (c then (Refused s then later)))) x).told ≡ Refused r)) ×
-        ((outcome_of e (a then (b then (c then (Refused s then later)))) x).engine ≡ e)
-    rows (Refused r) b c s later x = ((r, refl), refl)
-    rows Accepted (Refused r) c s later x = ((r, refl), refl)
-    rows Accepted Accepted (Refused r) s later x = ((r, refl), refl)
-    rows Accepted Accepted Accepted s later x = ((s, refl), refl)
+        ((r : Refusal) × ((outcome_of e (a then (b then (c then (Err s then later)))) x).told ≡ Err r)) ×
+        ((outcome_of e (a then (b then (c then (Err s then later)))) x).engine ≡ e)
+    rows (Err r) b c s later x = ((r, refl), refl)
+    rows (Ok _) (Err r) c s later x = ((r, refl), refl)
+    rows (Ok _) (Ok _) (Err r) s later x = ((r, refl), refl)
+    rows (Ok _) (Ok _) (Ok _) s later x = ((s, refl), refl)
 
     go :
         (t : Told) → first_of (form_order forms rec) ≡ t → on_told {A = Bool} t true (λ r. false) ≡ false →
-        ((r : Refusal) × ((begin_of e w l rec).told ≡ Refused r)) × ((begin_of e w l rec).engine ≡ e)
-    go Accepted q k = let z : ◌≡◌ {A = ℕ} 0 1 = cc in absurd (omega arith)
-    go (Refused s) q k =
-        let j : job_told rec l (guards_of (words_of e)) ≡ Refused s = sym (job_stop rec l (guards_of (words_of e)) (Refused s) s (sym q) refl) in
+        ((r : Refusal) × ((begin_of e w l rec).told ≡ Err r)) × ((begin_of e w l rec).engine ≡ e)
+    go (Ok _) q k = let z : ◌≡◌ {A = ℕ} 0 1 = cc in absurd (omega arith)
+    go (Err s) q k =
+        let j : job_told rec l (guards_of (words_of e)) ≡ Err s = sym (job_stop rec l (guards_of (words_of e)) (Err s) s (sym q) refl) in
         rw j
         (rows (refuse_if (leb workers w) NoWorker) (begin_by_state (worker_at e w)) (refuse_if (leb (lock_count e) l) NoLock) s
         (refuse_if (worn_of (lock_at e l)) LastTurn) (taken_of e w l rec))

@@ -50,27 +50,27 @@ pub record OneEncoding : Type 0 where
   -- reading what was written, whatever follows it, gives the call back
   pub back :
       (c : Call) (rest : List ℕ) → AllRecords (c ∷ []) → is_written c ≡ true →
-      (record_told (call_record c ++ rest) ≡ Accepted) ×
+      (record_told (call_record c ++ rest) ≡ Ok tt) ×
       (length_field (call_record c ++ rest) ≡ length (call_record c)) ×
       (call_in (call_record c ++ rest) ≡ in_bytes c)
   -- an accepted record is the record of the call that it makes
   pub whole :
-      (s : List ℕ) → AllBytes s → record_told s ≡ Accepted →
+      (s : List ℕ) → AllBytes s → record_told s ≡ Ok tt →
       (is_written (call_in s) ≡ true) × (take (length_field s) s ≡ call_record (call_in s))
   -- so two accepted records that make one call are the same bytes
   pub one :
-      (s t : List ℕ) → AllBytes s → AllBytes t → record_told s ≡ Accepted → record_told t ≡ Accepted → call_in s ≡ call_in t →
+      (s t : List ℕ) → AllBytes s → AllBytes t → record_told s ≡ Ok tt → record_told t ≡ Ok tt → call_in s ≡ call_in t →
       take (length_field s) s ≡ take (length_field t) t
 
 -- What the writer of records does to a lent buffer.
 pub record RecordWriter : Type 0 where
   -- where it is refused, it alters not one byte of the buffer
   pub kept :
-      (call w l : ℕ) (rec buf : List ℕ) (r : Refusal) → recorded_of call w l rec (length buf) ≡ WriteTold.Refused r →
+      (call w l : ℕ) (rec buf : List ℕ) (r : Refusal) → recorded_of call w l rec (length buf) ≡ Err r →
       recorded_in call w l rec buf ≡ buf
   -- where not, it tells how long the record is; that is at the front, and the bytes after it are as they were
   pub wrote :
-      (call w l : ℕ) (rec buf : List ℕ) (n : ℕ) → recorded_of call w l rec (length buf) ≡ WriteTold.Wrote n →
+      (call w l : ℕ) (rec buf : List ℕ) (n : ℕ) → recorded_of call w l rec (length buf) ≡ Ok n →
       (n ≡ length (call_record (call_with call w l rec))) ×
       (recorded_in call w l rec buf ≡ call_record (call_with call w l rec) ++ drop n buf)
 
@@ -82,11 +82,11 @@ pub record NothingLost : Type 0 where
   -- a begin that has no record is refused and changes nothing
   pub unwritten :
       (e : Engine) (w l : ℕ) (rec : List ℕ) → is_written (Begin w l rec) ≡ false →
-      ((r : Refusal) × ((begin_of e w l rec).told ≡ Refused r)) × ((begin_of e w l rec).engine ≡ e)
+      ((r : Refusal) × ((begin_of e w l rec).told ≡ Err r)) × ((begin_of e w l rec).engine ≡ e)
 
 -- a file that is short enough to be read, of a setup record that setup accepts and the records of some calls
 pub record IsFile (setup : List ℕ) (cs : List Call) : Type 0 where
-  pub accepted : (setup_of setup).told ≡ Accepted
+  pub accepted : (setup_of setup).told ≡ Ok tt
   pub bytes : AllRecords cs
   pub most : length (file_of setup cs) ≤ most_file
 
@@ -96,7 +96,7 @@ pub record Split (s : List ℕ) : Type 0 where
   pub rest : List ℕ
   pub bytes : AllRecords calls
   pub is : s ≡ records_of calls ++ rest
-  pub ends : 0 < length rest → (r : Refusal) × (record_told rest ≡ Refused r)
+  pub ends : 0 < length rest → (r : Refusal) × (record_told rest ≡ Err r)
 
 pub record Replays : Type 0 where
   -- a file cut at a record's edge after the setup is the file of the calls before the edge
@@ -122,7 +122,7 @@ pub record Replays : Type 0 where
   -- "Each ends the walk after its line, ending 0 0": a record that is refused has one more line, and no call after it is made
   pub ends :
       (setup : List ℕ) (cs : List Call) (rest : List ℕ) (r : Refusal) → IsFile setup cs →
-      length (file_of setup cs ++ rest) ≤ most_file → 0 < length rest → record_told rest ≡ Refused r →
+      length (file_of setup cs ++ rest) ≤ most_file → 0 < length rest → record_told rest ≡ Err r →
       (printed_of (file_of setup cs ++ rest) ≡
       printed_of (file_of setup cs) ++
       line_text (length (lines_along (setup_of setup).engine cs)) (Number (refusal_number r))) ×

@@ -26,7 +26,7 @@ abbrev pub CallsFor : ℕ → ℕ → Type 0
 CallsFor n kind =
     let s = header (8 + 4 * n) call_kind (replicate (4 + 4 * n) 0) in
     let begin = Begin 0 0 (header (4 + 4 * n) kind (replicate (4 * n) 0)) in
-    (record_told s ≡ Accepted) × (call_in s ≡ begin) × (call_record begin ≡ s)
+    (record_told s ≡ Ok tt) × (call_in s ≡ begin) × (call_record begin ≡ s)
 
 pub record Shown : Type 0 where
   -- "S of 01 followed by `08 00 03 00 02 00 00 00` prints `0 11 0 0`."
@@ -45,9 +45,9 @@ pub record Shown : Type 0 where
       49 ∷ 54 ∷ 32 ∷ 48 ∷ 32 ∷ 49 ∷ 32 ∷ 49 ∷ 52 ∷ 32 ∷ 50 ∷ 10 ∷ []
   -- 5 of a record that is cut short, also where its kind is another; then 6, also where it makes no call; then 17, of a begin
   -- without instructions and of one with 65
-  pub five : record_told (0x09 ∷ 0x00 ∷ 0x04 ∷ 0x00 ∷ 0x01 ∷ 0x00 ∷ 0x00 ∷ 0x00 ∷ []) ≡ Refused Length
-  pub six : record_told (0x07 ∷ 0x00 ∷ 0x03 ∷ 0x01 ∷ 0x09 ∷ 0x00 ∷ 0x00 ∷ []) ≡ Refused Kind
-  pub none : record_told (0x08 ∷ 0x00 ∷ 0x03 ∷ 0x00 ∷ 0x00 ∷ 0x00 ∷ 0x00 ∷ 0x00 ∷ []) ≡ Refused CallRecord
-  pub many : record_told (0x0C ∷ 0x01 ∷ 0x03 ∷ 0x00 ∷ replicate 264 0) ≡ Refused CallRecord
+  pub five : record_told (0x09 ∷ 0x00 ∷ 0x04 ∷ 0x00 ∷ 0x01 ∷ 0x00 ∷ 0x00 ∷ 0x00 ∷ []) ≡ Err Length
+  pub six : record_told (0x07 ∷ 0x00 ∷ 0x03 ∷ 0x01 ∷ 0x09 ∷ 0x00 ∷ 0x00 ∷ []) ≡ Err Kind
+  pub none : record_told (0x08 ∷ 0x00 ∷ 0x03 ∷ 0x00 ∷ 0x00 ∷ 0x00 ∷ 0x00 ∷ 0x00 ∷ []) ≡ Err CallRecord
+  pub many : record_told (0x0C ∷ 0x01 ∷ 0x03 ∷ 0x00 ∷ replicate 264 0) ≡ Err CallRecord
   -- request 04: "Call records of 33 to 64 instructions begin a kind 4 job", and those of 1 to 32 one of kind 1
   pub kinds : CallsFor 1 1 × CallsFor 32 1 × CallsFor 33 4 × CallsFor 64 4

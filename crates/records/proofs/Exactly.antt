@@ -1,4 +1,5 @@
 -- The lowest faulty instruction is told, and nothing else: `code_told` is the order of the instructions' rows.
+use Rattle.std.specs.Prelude.{Err, Ok}
 use Prim.Native.Nat.{ℕ, zero, suc, ◌+◌, ◌-◌, ◌<◌}
 use mathlib.Core.Path.{◌≡◌, refl, ◌∙◌, sym, ap}
 use mathlib.Core.List.{List, [], ◌∷◌}
@@ -10,8 +11,7 @@ use Rattle.parts.specs.Parts.{instr0}
 use Rattle.parts.specs.Told.{◌then◌, first_of, FirstAt}
 use Rattle.parts.specs.declared.Instr.{Instr}
 use Rattle.parts.specs.declared.Refusal.{Refusal}
-use Rattle.parts.specs.declared.Told.{Told}
-use Rattle.parts.specs.declared.Told.TheVariants.{Accepted, Refused}
+use Rattle.parts.specs.Told.{Told}
 use Rattle.parts.proofs.Order.{first_cons, first_exactly}
 use Rattle.records.specs.Job.{instr_told, code_told}
 
@@ -22,7 +22,7 @@ row_of is lock guards k = instr_told (get_or is k instr0) k (length is - (k + 1)
 -- instruction i is refused with r, and every lower one is accepted
 abbrev pub LowestAt : List Instr → ℕ → List ℕ → Refusal → ℕ → Type 0
 LowestAt is lock guards r i =
-    (i < length is) × (row_of is lock guards i ≡ Refused r) × ((j : ℕ) → j < i → row_of is lock guards j ≡ Accepted)
+    (i < length is) × (row_of is lock guards i ≡ Err r) × ((j : ℕ) → j < i → row_of is lock guards j ≡ Ok tt)
 
 module _ (lock : ℕ) (guards : List ℕ) where
   rows : List Instr → ℕ → List Told
@@ -44,7 +44,7 @@ module _ (lock : ℕ) (guards : List ℕ) where
   row_at :
       (is : List Instr) (place k : ℕ) →
       k < length is →
-      get_or (rows is place) k Accepted ≡ instr_told (get_or is k instr0) (place + k) (length is - (k + 1)) lock guards
+      get_or (rows is place) k (Ok tt) ≡ instr_told (get_or is k instr0) (place + k) (length is - (k + 1)) lock guards
   unfolding rows
   row_at [] place k h = absurd (omega arith)
   row_at (i ∷ is) place zero h =
@@ -56,13 +56,13 @@ module _ (lock : ℕ) (guards : List ℕ) where
       let q : suc (length is) - (suc k + 1) ≡ length is - (k + 1) = omega arith in
       row_at is (place + 1) k (omega arith) ∙ simp (p, q)
 
-  row_is : (is : List Instr) (k : ℕ) → k < length is → get_or (rows is 0) k Accepted ≡ row_of is lock guards k
+  row_is : (is : List Instr) (k : ℕ) → k < length is → get_or (rows is 0) k (Ok tt) ≡ row_of is lock guards k
   row_is is k h = row_at is 0 k h ∙ simp (zero-add k)
 
   -- refused with r exactly when an instruction is, at its place, and every lower one is accepted
   pub code_exactly :
       (is : List Instr) (r : Refusal) →
-      code_told is 0 lock guards ≡ Refused r ↔ ((i : ℕ) × LowestAt is lock guards r i)
+      code_told is 0 lock guards ≡ Err r ↔ ((i : ℕ) × LowestAt is lock guards r i)
   code_exactly is r = (λ h. there ((first_exactly (rows is 0) r).0 (sym (code_rows_lem is 0) ∙ h)), back)
     where
       there : ((i : ℕ) × FirstAt (rows is 0) r i) → (i : ℕ) × LowestAt is lock guards r i
@@ -70,7 +70,7 @@ module _ (lock : ℕ) (guards : List ℕ) where
           let k : i < length is = omega (arith, rows_length is 0) in
           (i, (k, sym (row_is is i k) ∙ e, λ j q. sym (row_is is j (omega arith)) ∙ p j q))
 
-      back : ((i : ℕ) × LowestAt is lock guards r i) → code_told is 0 lock guards ≡ Refused r
+      back : ((i : ℕ) × LowestAt is lock guards r i) → code_told is 0 lock guards ≡ Err r
       back (i, (h, e, p)) =
           let k : i < length (rows is 0) = omega (arith, rows_length is 0) in
           code_rows_lem is 0 ∙

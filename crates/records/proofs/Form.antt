@@ -1,4 +1,5 @@
 -- A job record's form comes before its instructions: which records have one, and what is told of the others.
+use Rattle.std.specs.Prelude.{Err, Ok}
 use Prim.Native.Nat.{ℕ, ◌+◌, ◌-◌, ◌*◌, ◌/◌, ◌%◌, ◌≤◌, ◌<◌}
 use native.Mathlib.Omega.{arith}
 use mathlib.Core.Bool.{Bool, true, false}
@@ -12,8 +13,7 @@ use Rattle.parts.specs.Pick.{pick, ◌or◌, ◌isnt◌}
 use Rattle.parts.specs.Told.{◌then◌, refuse_if, first_of}
 use Rattle.parts.specs.declared.Refusal.TheVariants.{Length, Kind}
 use Rattle.parts.specs.declared.Refusal.{Refusal}
-use Rattle.parts.specs.declared.Told.{Told}
-use Rattle.parts.specs.declared.Told.TheVariants.{Accepted, Refused}
+use Rattle.parts.specs.Told.{Told}
 use Rattle.parts.proofs.Laws.{then_pass_by, then_stop_by}
 use Rattle.parts.proofs.Order.{first_all, both_pass, row_passes, neither, not_isnt}
 use Rattle.records.specs.Bytes.{kind_field, length_told, header}
@@ -23,9 +23,9 @@ use Rattle.records.proofs.Fours.{instrs_length}
 use Rattle.records.proofs.Laws.{length_four}
 
 three_then : (t u v w : Told) → (t then (u then (v then w))) ≡ ((t then (u then v)) then w)
-three_then (Refused r) u v w = refl
-three_then Accepted (Refused r) v w = refl
-three_then Accepted Accepted v w = refl
+three_then (Err r) u v w = refl
+three_then (Ok _) (Err r) v w = refl
+three_then (Ok _) (Ok _) v w = refl
 
 pub told_by_form :
     (takes : List Form) (rec : List ℕ) (lock : ℕ) (guards : List ℕ) →
@@ -36,41 +36,18 @@ told_by_form takes rec lock guards =
     (refuse_if (outside_kind takes (kind_field rec) (length rec)) Length) (code_told (job_of rec) 0 lock guards)
 
 -- what a callee told of the form
-pub form_four : (rec : List ℕ) (t : Told) → t ≡ first_of (form_order forms rec) → t ≡ Accepted → 4 ≤ length rec
+pub form_four : (rec : List ℕ) (t : Told) → t ≡ first_of (form_order forms rec) → t ≡ Ok tt → 4 ≤ length rec
 form_four rec t q h = length_four rec (length_told rec) refl (first_all (form_order forms rec) (sym q ∙ h) 0)
 
 pub job_stop :
-    (rec : List ℕ) (lock : ℕ) (guards : List ℕ) (t : Told) (r : Refusal) → t ≡ first_of (form_order forms rec) → t ≡ Refused r →
+    (rec : List ℕ) (lock : ℕ) (guards : List ℕ) (t : Told) (r : Refusal) → t ≡ first_of (form_order forms rec) → t ≡ Err r →
     t ≡ job_told rec lock guards
 job_stop rec lock guards t r q h = then_stop_by t _ _ r q h ∙ sym (told_by_form forms rec lock guards)
 
 pub job_pass :
-    (rec : List ℕ) (lock : ℕ) (guards : List ℕ) (t x : Told) → t ≡ first_of (form_order forms rec) → t ≡ Accepted →
+    (rec : List ℕ) (lock : ℕ) (guards : List ℕ) (t x : Told) → t ≡ first_of (form_order forms rec) → t ≡ Ok tt →
     x ≡ code_told (job_of rec) 0 lock guards → x ≡ job_told rec lock guards
 job_pass rec lock guards t x q h e = then_pass_by t _ _ x q h e ∙ sym (told_by_form forms rec lock guards)
-
--- the returns of the check: t is what was told of the length, b whether the kind k is none, c whether the count is outside its range
-module _
-    (rec : List ℕ) (t : Told) (k : ℕ) (b : Bool) (told : t ≡ length_told rec) (passed : t ≡ Accepted) (kind : k ≡ kind_field rec)
-    (none : b ≡ no_job_kind forms k) where
-  pub form_kind : b ≡ true → Refused Kind ≡ first_of (form_order forms rec)
-  form_kind h = let e = sym told ∙ passed in let n = ap (no_job_kind forms) (sym kind) ∙ sym none ∙ h in simp (e, n)
-
-  pub form_by :
-      (c : Bool) → c ≡ outside_kind forms k (length rec) → b ≡ false → refuse_if c Length ≡ first_of (form_order forms rec)
-  form_by c q h =
-      let e = sym told ∙ passed in
-      let n = ap (no_job_kind forms) (sym kind) ∙ sym none ∙ h in
-      let o = ap (λ (k : ℕ). outside_kind forms k (length rec)) (sym kind) ∙ sym q in
-      simp (e, n, o)
-
-  pub form_length :
-      (c : Bool) → c ≡ outside_kind forms k (length rec) → b ≡ false → c ≡ true → Refused Length ≡ first_of (form_order forms rec)
-  form_length c q h d = ap (λ (c : Bool). refuse_if c Length) (sym d) ∙ form_by c q h
-
-  pub form_passes :
-      (c : Bool) → c ≡ outside_kind forms k (length rec) → b ≡ false → c ≡ false → Accepted ≡ first_of (form_order forms rec)
-  form_passes c q h d = ap (λ (c : Bool). refuse_if c Length) (sym d) ∙ form_by c q h
 
 -- a length of 4 + 4n, n in its range
 pub length_in :
@@ -125,7 +102,7 @@ form_known kind bytes n count a b = go (eqb kind short.kind) (eqb kind long.kind
 pub job_count : (rec : List ℕ) → length (job_of rec) ≡ (length rec - 4) / 4
 job_count rec = instrs_length (drop 4 rec) ∙ ap (λ (k : ℕ). k / 4) (length-drop 4 rec)
 
-pub formed : (rec : List ℕ) → first_of (form_order forms rec) ≡ Accepted → Formed rec
+pub formed : (rec : List ℕ) → first_of (form_order forms rec) ≡ Ok tt → Formed rec
 formed rec h =
     let row = first_all (form_order forms rec) h in
     let known =
@@ -144,7 +121,7 @@ form_taken n low high = go (ltb short.most n) refl
     go true e = let l = ltb-true short.most n e in (refl, in_length long.fewest long.most n (omega arith) high)
     go false e = (refl, in_length short.fewest short.most n low (ltb-false short.most n e))
 
-pub formed_passes : (rec : List ℕ) → Formed rec → first_of (form_order forms rec) ≡ Accepted
+pub formed_passes : (rec : List ℕ) → Formed rec → first_of (form_order forms rec) ≡ Ok tt
 formed_passes rec f =
     let taken = form_taken (length (job_of rec)) f.fewest f.most in
     let kind : no_job_kind forms (kind_field rec) ≡ false = ap (no_job_kind forms) f.kind ∙ taken.0 in
@@ -154,9 +131,9 @@ formed_passes rec f =
     simp (f.told, kind, size)
 
 -- an accepted job record has the form, and its instructions pass
-pub job_formed : (rec : List ℕ) (lock : ℕ) (guards : List ℕ) → job_told rec lock guards ≡ Accepted → Formed rec
+pub job_formed : (rec : List ℕ) (lock : ℕ) (guards : List ℕ) → job_told rec lock guards ≡ Ok tt → Formed rec
 job_formed rec lock guards h = formed rec (both_pass _ (code_told (job_of rec) 0 lock guards) (sym (told_by_form forms rec lock guards) ∙ h)).0
 
 pub job_code :
-    (rec : List ℕ) (lock : ℕ) (guards : List ℕ) → job_told rec lock guards ≡ Accepted → code_told (job_of rec) 0 lock guards ≡ Accepted
+    (rec : List ℕ) (lock : ℕ) (guards : List ℕ) → job_told rec lock guards ≡ Ok tt → code_told (job_of rec) 0 lock guards ≡ Ok tt
 job_code rec lock guards h = (both_pass (first_of (form_order forms rec)) _ (sym (told_by_form forms rec lock guards) ∙ h)).1

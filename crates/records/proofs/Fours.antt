@@ -1,12 +1,12 @@
 -- Lists of bytes by fours: what is read of each four, and what is written as four. One set of laws, for instructions and numbers.
 use Prim.Native.Nat.{ℕ, suc, ◌+◌, ◌*◌, ◌/◌, ◌%◌, ◌^◌, ◌≤◌, ◌<◌}
 use mathlib.Core.Path.{◌≡◌, refl, ◌∙◌, sym, ap}
-use mathlib.Core.List.{List, [], ◌∷◌}
+use mathlib.Core.List.{List, [], ◌∷◌, ◌++◌}
 use native.Mathlib.Omega.{arith}
 use lib.ListN.{length, get_or, drop}
 use Rattle.parts.specs.Parts.{instr0}
 use Rattle.parts.specs.declared.Instr.{Instr}
-use Rattle.records.specs.Bytes.{u32_of, u32s_of, u32s_bytes}
+use Rattle.records.specs.Bytes.{u32_of, u32_at, u32s_of, u32s_bytes}
 use Rattle.records.specs.Job.{instrs_of, code_bytes, first_instr}
 
 -- what f makes of each four bytes
@@ -55,6 +55,17 @@ fours_turn f (a ∷ b ∷ []) h = absurd (omega arith)
 fours_turn f (a ∷ b ∷ c ∷ []) h = absurd (omega arith)
 fours_turn f (a ∷ b ∷ c ∷ d ∷ rest) h = refl
 
+fours_four :
+    {A : Type 0} (f : ℕ → ℕ → ℕ → ℕ → A) (s four rest : List ℕ) → s ≡ four ++ rest → length four ≡ 4 →
+    by_fours f s ≡ f (get_or four 0 0) (get_or four 1 0) (get_or four 2 0) (get_or four 3 0) ∷ by_fours f rest
+unfolding by_fours
+fours_four f s [] rest e n = absurd (omega arith)
+fours_four f s (a ∷ []) rest e n = absurd (omega arith)
+fours_four f s (a ∷ b ∷ []) rest e n = absurd (omega arith)
+fours_four f s (a ∷ b ∷ c ∷ []) rest e n = absurd (omega arith)
+fours_four f s (a ∷ b ∷ c ∷ d ∷ []) rest e n = ap (by_fours f) e
+fours_four f s (a ∷ b ∷ c ∷ d ∷ x ∷ xs) rest e n = absurd (omega arith)
+
 fours_length : {A : Type 0} (f : ℕ → ℕ → ℕ → ℕ → A) (s : List ℕ) → length (by_fours f s) ≡ length s / 4
 unfolding by_fours
 fours_length f [] = refl
@@ -70,6 +81,12 @@ pub instrs_turn : (s : List ℕ) → 4 ≤ length s → instrs_of s ≡ first_in
 unfolding instr_of
 instrs_turn s h = instrs_are s ∙ fours_turn instr_of s h ∙ ap (λ (l : List Instr). first_instr s ∷ l) (sym (instrs_are (drop 4 s)))
 
+-- a list that begins with these four bytes, as `chunks_exact` gives them
+pub instrs_four : (s four rest : List ℕ) → s ≡ four ++ rest → length four ≡ 4 → instrs_of s ≡ first_instr four ∷ instrs_of rest
+unfolding instr_of
+instrs_four s four rest e n =
+    instrs_are s ∙ fours_four instr_of s four rest e n ∙ ap (λ (l : List Instr). first_instr four ∷ l) (sym (instrs_are rest))
+
 pub instrs_length : (s : List ℕ) → length (instrs_of s) ≡ length s / 4
 instrs_length s = ap length (instrs_are s) ∙ fours_length instr_of s
 
@@ -83,6 +100,10 @@ pub u32s_turn :
 u32s_turn s h =
     u32s_are s ∙ fours_turn _ s h ∙
     ap (λ (l : List ℕ). u32_of (get_or s 0 0) (get_or s 1 0) (get_or s 2 0) (get_or s 3 0) ∷ l) (sym (u32s_are (drop 4 s)))
+
+pub u32s_four : (s four rest : List ℕ) → s ≡ four ++ rest → length four ≡ 4 → u32s_of s ≡ u32_at four 0 ∷ u32s_of rest
+u32s_four s four rest e n =
+    u32s_are s ∙ fours_four _ s four rest e n ∙ ap (λ (l : List ℕ). u32_at four 0 ∷ l) (sym (u32s_are rest))
 
 pub u32s_length : (s : List ℕ) → length (u32s_of s) ≡ length s / 4
 u32s_length s = ap length (u32s_are s) ∙ fours_length _ s

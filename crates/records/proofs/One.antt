@@ -1,4 +1,5 @@
 -- Records have one encoding each: an accepted record is the record of what it says, so that two that say the same are equal.
+use Rattle.std.specs.Prelude.{Ok}
 use Prim.Native.Nat.{ℕ, zero, suc, ◌+◌, ◌*◌, ◌/◌, ◌%◌, ◌≤◌, ◌<◌}
 use mathlib.Core.Path.{◌≡◌, refl, ◌∙◌, sym, ap}
 use mathlib.Core.Bool.{false}
@@ -13,7 +14,6 @@ use Rattle.parts.specs.Pick.{◌isnt◌}
 use Rattle.parts.specs.Told.{refuse_if}
 use Rattle.parts.specs.declared.Instr.{Instr}
 use Rattle.parts.specs.declared.Refusal.TheVariants.{Length, Kind, Range}
-use Rattle.parts.specs.declared.Told.TheVariants.{Accepted}
 use Rattle.parts.proofs.Order.{first_all, row_passes, neither, not_isnt}
 use Rattle.records.specs.Bytes.{AllBytes, u32s_bytes, kind_field, length_told, header}
 use Rattle.records.specs.Job.{kind_for, job_of, job_record, job_told}
@@ -37,7 +37,7 @@ four_first (a ∷ b ∷ c ∷ d ∷ rest) h = refl
 pub header_is :
     (rec : List ℕ) (n kind : ℕ) (body : List ℕ) →
     AllBytes rec →
-    length_told rec ≡ Accepted →
+    length_told rec ≡ Ok tt →
     kind_field rec ≡ kind →
     kind < 256 →
     n ≡ length rec →
@@ -58,7 +58,7 @@ header_is rec n kind body h t k q e b =
 
 -- an accepted job record is the record of its job
 pub job_back :
-    (rec : List ℕ) (lock : ℕ) (guards : List ℕ) → AllBytes rec → job_told rec lock guards ≡ Accepted → job_record (job_of rec) ≡ rec
+    (rec : List ℕ) (lock : ℕ) (guards : List ℕ) → AllBytes rec → job_told rec lock guards ≡ Ok tt → job_record (job_of rec) ≡ rec
 job_back rec lock guards b h =
     let f = job_formed rec lock guards h in
     header_is rec (4 + 4 * length (job_of rec)) (kind_for (length (job_of rec))) _ b f.told f.kind (kind_byte (length (job_of rec)))
@@ -69,8 +69,8 @@ pub job_one :
     (rec rec' : List ℕ) (lock lock' : ℕ) (guards guards' : List ℕ) →
     AllBytes rec →
     AllBytes rec' →
-    job_told rec lock guards ≡ Accepted →
-    job_told rec' lock' guards' ≡ Accepted →
+    job_told rec lock guards ≡ Ok tt →
+    job_told rec' lock' guards' ≡ Ok tt →
     job_of rec ≡ job_of rec' →
     rec ≡ rec'
 job_one rec rec' lock lock' guards guards' b b' h h' e =
@@ -85,7 +85,7 @@ take_bytes (suc n) (x ∷ s) h (suc k) = take_bytes n s (λ j. h (suc j)) k
 inside : (most n : ℕ) → outside most n ≡ false → (1 ≤ n) × (n ≤ most)
 inside most n h = let e = neither (ltb n 1) (ltb most n) h in (ltb-false n 1 e.0, ltb-false most n e.1)
 
-pub setup_sized : (rec : List ℕ) → setup_told rec ≡ Accepted → Sized rec
+pub setup_sized : (rec : List ℕ) → setup_told rec ≡ Ok tt → Sized rec
 unfolding setup_told
 setup_sized rec h =
     let rows =
@@ -104,7 +104,7 @@ setup_sized rec h =
       turns = row 7;
     }
 
-module _ (rec : List ℕ) (h : setup_told rec ≡ Accepted) where
+module _ (rec : List ℕ) (h : setup_told rec ≡ Ok tt) where
   sized : Sized rec
   sized = setup_sized rec h
 
@@ -155,8 +155,8 @@ pub setup_one :
     (rec rec' : List ℕ) →
     AllBytes rec →
     AllBytes rec' →
-    setup_told rec ≡ Accepted →
-    setup_told rec' ≡ Accepted →
+    setup_told rec ≡ Ok tt →
+    setup_told rec' ≡ Ok tt →
     guards_field rec ≡ guards_field rec' →
     values_field rec ≡ values_field rec' →
     turns_field rec ≡ turns_field rec' →

@@ -1,5 +1,6 @@
 -- What is written is taken: the setup record of fields that are in range is accepted, and has those fields; a job record is told
 -- what its instructions are told, and has that job.
+use Rattle.std.specs.Prelude.{Ok}
 use Prim.Native.Nat.{ℕ, zero, suc, ◌+◌, ◌*◌, ◌/◌, ◌^◌, ◌≤◌, ◌<◌}
 use mathlib.Core.Path.{◌≡◌, refl, ◌∙◌, sym, ap, subst}
 use mathlib.Core.List.{List, [], ◌∷◌, ◌++◌, append_assoc}
@@ -7,12 +8,11 @@ use native.Mathlib.Omega.{arith}
 use lib.Dec.{leb, ltb}
 use lib.ListN.{length, get_or, take, drop, length-append}
 use lib.Seq.{drop-drop, take_at, drop_at}
-use borrow.Author.Tests.{lt-leb, leb-false, le-ltb, ltb-false}
+use borrow.Author.Tests.{leb-false, le-ltb, ltb-false}
 use Rattle.parts.specs.Numbers.{instructions, most_locks, most_words, last_turn}
 use Rattle.parts.specs.declared.Instr.{Instr}
 use Rattle.parts.specs.Told.{refuse_if, first_of}
 use Rattle.parts.specs.declared.Refusal.TheVariants.{Range}
-use Rattle.parts.specs.declared.Told.TheVariants.{Accepted}
 use Rattle.parts.proofs.Laws.{laws, order}
 use Rattle.parts.proofs.Order.{both_pass, row_passes}
 use Rattle.records.specs.Bytes.{u32s_of, u32s_bytes, length_field, length_told}
@@ -20,16 +20,11 @@ use Rattle.records.specs.Job.{forms, kind_for, code_bytes, job_of, job_record, f
 use Rattle.records.specs.Setup.{locks_field, words_field, guards_field, values_field, turns_field, setup_length, setup_record, guards_told, turns_told, setup_told}
 use Rattle.records.specs.Inner.{Sized}
 use Rattle.records.proofs.Form.{kind_field_lem, formed_passes, job_pass}
+use Rattle.records.proofs.Laws.{guards_all}
 use Rattle.records.proofs.Fours.{instrs_of_code, code_length, u32s_of_bytes, bytes_length}
 
--- every guard is a lock, every turn at most the last
-guards_all :
-    (guards : List ℕ) (locks place : ℕ) → ((k : ℕ) → get_or guards k 0 < locks) → guards_told guards locks place ≡ Accepted
-unfolding guards_told
-guards_all [] locks place h = refl
-guards_all (g ∷ gs) locks place h = simp (lt-leb locks g (h zero)) (guards_all gs locks (place + 1) (λ k. h (suc k)))
-
-turns_all : (turns : List ℕ) (place : ℕ) → ((k : ℕ) → get_or turns k 0 ≤ last_turn) → turns_told turns place ≡ Accepted
+-- every turn is at most the last
+turns_all : (turns : List ℕ) (place : ℕ) → ((k : ℕ) → get_or turns k 0 ≤ last_turn) → turns_told turns place ≡ Ok tt
 unfolding turns_told
 turns_all [] place h = refl
 turns_all (t ∷ ts) place h = simp (le-ltb last_turn t (h zero)) (turns_all ts (place + 4) (λ k. h (suc k)))
@@ -37,7 +32,7 @@ turns_all (t ∷ ts) place h = simp (le-ltb last_turn t (h zero)) (turns_all ts 
 -- and where they are accepted they are so
 pub guards_below :
     (guards : List ℕ) (locks place : ℕ) →
-    guards_told guards locks place ≡ Accepted →
+    guards_told guards locks place ≡ Ok tt →
     (k : ℕ) →
     k < length guards →
     get_or guards k 0 < locks
@@ -48,7 +43,7 @@ guards_below (g ∷ gs) locks place h zero q =
 guards_below (g ∷ gs) locks place h (suc k) q =
     guards_below gs locks (place + 1) (both_pass (refuse_if (leb locks g) (Range place)) _ h).1 k (omega arith)
 
-pub turns_below : (turns : List ℕ) (place : ℕ) → turns_told turns place ≡ Accepted → (k : ℕ) → get_or turns k 0 ≤ last_turn
+pub turns_below : (turns : List ℕ) (place : ℕ) → turns_told turns place ≡ Ok tt → (k : ℕ) → get_or turns k 0 ≤ last_turn
 unfolding turns_told
 turns_below [] place h k = omega arith
 turns_below (t ∷ ts) place h zero =
@@ -56,16 +51,16 @@ turns_below (t ∷ ts) place h zero =
 turns_below (t ∷ ts) place h (suc k) =
     turns_below ts (place + 4) (both_pass (refuse_if (ltb last_turn t) (Range place)) _ h).1 k
 
-length_passes : (rec : List ℕ) → 4 ≤ length rec → length_field rec ≡ length rec → Accepted ≡ length_told rec
+length_passes : (rec : List ℕ) → 4 ≤ length rec → length_field rec ≡ length rec → Ok tt ≡ length_told rec
 length_passes rec h e = search laws depth 8
 
 -- the sizes and fields of a record are right: it is accepted
-pub sized_setup : (rec : List ℕ) → Sized rec → setup_told rec ≡ Accepted
+pub sized_setup : (rec : List ℕ) → Sized rec → setup_told rec ≡ Ok tt
 unfolding setup_told
 sized_setup rec z =
-    let t : Accepted ≡ length_told rec = sym z.told in
-    let g : Accepted ≡ guards_told (guards_field rec) (locks_field rec) 6 = sym z.guards in
-    let u : Accepted ≡ turns_told (turns_field rec) (6 + 5 * words_field rec) = sym z.turns in
+    let t : Ok tt ≡ length_told rec = sym z.told in
+    let g : Ok tt ≡ guards_told (guards_field rec) (locks_field rec) 6 = sym z.guards in
+    let u : Ok tt ≡ turns_told (turns_field rec) (6 + 5 * words_field rec) = sym z.turns in
     let n : 6 ≤ length rec = omega arith in
     sym (search (laws, order) depth 12)
 
@@ -122,7 +117,7 @@ pub setup_takes :
     ((k : ℕ) → get_or guards k 0 < length turns) →
     ((k : ℕ) → get_or values k 0 < 2 ^ 32) →
     ((k : ℕ) → get_or turns k 0 ≤ last_turn) →
-    (setup_told (setup_record guards values turns) ≡ Accepted) × (guards_field (setup_record guards values turns) ≡ guards) ×
+    (setup_told (setup_record guards values turns) ≡ Ok tt) × (guards_field (setup_record guards values turns) ≡ guards) ×
     (values_field (setup_record guards values turns) ≡ values) × (turns_field (setup_record guards values turns) ≡ turns)
 unfolding written
 setup_takes guards values turns l w same below fits last =
@@ -135,8 +130,8 @@ setup_takes guards values turns l w same below fits last =
     let low : n / 256 < 256 = omega arith in
     let field : length_field rec ≡ length rec = omega arith in
     let told = sym (length_passes rec (omega arith) field) in
-    let gs : guards_told (guards_field rec) (locks_field rec) 6 ≡ Accepted = simp g (guards_all guards (length turns) 6 below) in
-    let ts : turns_told (turns_field rec) (6 + 5 * length guards) ≡ Accepted = simp t (turns_all turns _ last) in
+    let gs : guards_told (guards_field rec) (locks_field rec) 6 ≡ Ok tt = simp g (sym (guards_all guards (length turns) 6 (λ k q. below k))) in
+    let ts : turns_told (turns_field rec) (6 + 5 * length guards) ≡ Ok tt = simp t (turns_all turns _ last) in
     (sized_setup rec (record { told = told; kind = refl; locks = l; words = w; size = size; guards = gs; turns = ts }), g, v, t)
 
 -- of the record of 1 to 64 instructions is told what is told of the instructions
@@ -151,8 +146,8 @@ job_takes is lock guards n =
     let byte : (4 + 4 * length is) / 256 < 256 = omega arith in
     let field : length_field rec ≡ length rec = omega arith in
     let same : length is ≡ length (job_of rec) = ap length (sym job) in
-    let low : length_told rec ≡ Accepted = sym (length_passes rec (omega arith) field) in
-    let passes : first_of (form_order forms rec) ≡ Accepted =
+    let low : length_told rec ≡ Ok tt = sym (length_passes rec (omega arith) field) in
+    let passes : first_of (form_order forms rec) ≡ Ok tt =
     formed_passes rec
     (record {
       told = low;
@@ -161,4 +156,4 @@ job_takes is lock guards n =
       most = subst (λ (n : ℕ). n ≤ instructions) same n.1;
       size = size ∙ ap (λ (n : ℕ). 4 + 4 * n) same;
     }) in
-    (sym (job_pass rec lock guards Accepted (code_told is 0 lock guards) (sym passes) refl (ap (λ (l : List Instr). code_told l 0 lock guards) (sym job))), job)
+    (sym (job_pass rec lock guards (Ok tt) (code_told is 0 lock guards) (sym passes) refl (ap (λ (l : List Instr). code_told l 0 lock guards) (sym job))), job)

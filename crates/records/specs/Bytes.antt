@@ -3,7 +3,7 @@ use Rattle.std.specs.Prelude.{ℕ, ◌+◌, ◌*◌, ◌/◌, ◌%◌, ◌<◌, 
 use Rattle.parts.specs.Pick.{◌or◌, ◌isnt◌}
 use Rattle.parts.specs.Told.{refuse_if}
 use Rattle.parts.specs.declared.Refusal.TheVariants.{Length}
-use Rattle.parts.specs.declared.Told.{Told}
+use Rattle.parts.specs.Told.{Told}
 
 -- every element is a byte
 abbrev pub AllBytes : List ℕ → Type 0

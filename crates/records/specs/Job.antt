@@ -96,13 +96,9 @@ instr_told i place left lock guards =
     refuse_if (strays_at i lock guards) (Guard place) ∷
     [])
 
--- the first instruction of a list of bytes
-abbrev pub first_told : List ℕ → ℕ → ℕ → List ℕ → Told
-first_told s place lock guards = instr_told (first_instr s) place ((length s - 4) / 4) lock guards
-
 -- "then the lowest faulty instruction": of those from `place` on
 unfoldable pub code_told : List Instr → ℕ → ℕ → List ℕ → Told
-code_told [] place lock guards = Accepted
+code_told [] place lock guards = Ok tt
 code_told (i ∷ is) place lock guards =
     instr_told i place (length is) lock guards then code_told is (place + 1) lock guards
 

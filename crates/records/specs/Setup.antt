@@ -41,11 +41,11 @@ outside most n = ltb n 1 or ltb most n
 
 -- "12 for the lowest faulty byte": of the guards from `place` on, and of the turns, each at its first byte
 unfoldable pub guards_told : List ℕ → ℕ → ℕ → Told
-guards_told [] locks place = Accepted
+guards_told [] locks place = Ok tt
 guards_told (g ∷ gs) locks place = refuse_if (leb locks g) (Range place) then guards_told gs locks (place + 1)
 
 unfoldable pub turns_told : List ℕ → ℕ → Told
-turns_told [] place = Accepted
+turns_told [] place = Ok tt
 turns_told (t ∷ ts) place = refuse_if (ltb last_turn t) (Range place) then turns_told ts (place + 4)
 
 -- the end of the order below, of a record with l locks and w words: "12 for the lowest faulty byte"

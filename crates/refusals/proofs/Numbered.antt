@@ -1,5 +1,6 @@
 -- A refusal's number and place tell it, and an answer's number the answer: no two have the same. The numbers are document 01's,
 -- from 1 to 16 without 10, which request 06 removed, request 01's 17 and request 08's 18 to 20.
+use Rattle.std.specs.Prelude.{Err, Ok}
 use Prim.Native.Nat.{ℕ, ◌≤◌}
 use mathlib.Core.Path.{◌≡◌, refl, ◌∙◌, sym, ap}
 use mathlib.Core.Logic.{◌↔◌, ◌≢◌}
@@ -10,8 +11,7 @@ use Rattle.parts.specs.Told.{answer_number, refusal_number, refusal_place}
 use Rattle.parts.specs.declared.Answer.{Answer}
 use Rattle.parts.specs.declared.Answer.TheVariants.{RanYes, RanNo, NotTaken, Worn}
 use Rattle.parts.specs.declared.Refusal.{Refusal}
-use Rattle.parts.specs.declared.Told.{Told}
-use Rattle.parts.specs.declared.Told.TheVariants.{Accepted, Refused}
+use Rattle.parts.specs.Told.{Told}
 use Rattle.parts.specs.declared.Refusal.TheVariants.{NoWorker, NoLock, WorkerUnderWay, NotCollected, Length, Kind, Instruction, Guard, LastTurn, WorkerIdle, Range, Buffer, SheetFree, Held, NoWord, CallRecord, Malformed, NotThere, Present}
 use Rattle.refusals.specs.Orders.{Refuses}
 
@@ -103,7 +103,7 @@ number_range Present = (omega arith, omega arith, λ h. omega arith)
 
 -- a call is refused with a refusal's number and place exactly when it is refused with it
 pub by_number :
-    (told : Told) (r : Refusal) → Refuses told (refusal_number r) (refusal_place r) ↔ (told ≡ Refused r)
-by_number Accepted r = (λ h. absurd h, λ h. let z : ◌≡◌ {A = ℕ} 0 1 = cc in absurd (omega arith))
-by_number (Refused s) r =
-    (λ (n, p). ap Refused (number_one s r n p), λ h. let q : s ≡ r = cc in (ap refusal_number q, ap refusal_place q))
+    (told : Told) (r : Refusal) → Refuses told (refusal_number r) (refusal_place r) ↔ (told ≡ Err r)
+by_number (Ok _) r = (λ h. absurd h, λ h. let z : ◌≡◌ {A = ℕ} 0 1 = cc in absurd (omega arith))
+by_number (Err s) r =
+    (λ (n, p). ap Err (number_one s r n p), λ h. let q : s ≡ r = cc in (ap refusal_number q, ap refusal_place q))

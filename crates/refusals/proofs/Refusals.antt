@@ -1,5 +1,6 @@
 -- Demand 1: each refusal is given exactly when its row refuses and every row before it accepts, and it changes nothing; a worker
 -- that isn't idle can't begin; and a call has one outcome.
+use Rattle.std.specs.Prelude.{Err, Ok}
 use Prim.Native.Nat.{ℕ}
 use mathlib.Core.Path.{◌≡◌, refl, ◌∙◌, sym, ap}
 use mathlib.Core.List.{List}
@@ -11,50 +12,45 @@ use Rattle.parts.specs.Told.{on_told, first_of, refusal_number, refusal_place}
 use Rattle.parts.specs.declared.Answer.{Answer}
 use Rattle.parts.specs.declared.Refusal.{Refusal}
 use Rattle.parts.specs.declared.Refusal.TheVariants.{WorkerUnderWay, NotCollected}
-use Rattle.parts.specs.declared.Told.{Told}
-use Rattle.parts.specs.declared.Told.TheVariants.{Accepted, Refused}
+use Rattle.parts.specs.Told.{Told}
 use Rattle.parts.proofs.Order.{first_exactly}
 use Rattle.records.specs.Job.{job_of}
 use Rattle.records.specs.Setup.{setup_told}
 use Rattle.alone.specs.Alone.{alone_of}
 use Rattle.plain.specs.Plain.{plain_told, ran_told, plain_of, plain_left}
-use Rattle.plain.specs.declared.PlainTold.{PlainTold}
 use Rattle.steps.specs.Worker as worker
 use Rattle.engine.specs.Calls.{outcome_of, setup_of, begin_of, begin_told, step_of, step_told, collect_of, collect_told, drop_of, drop_told, read_word_of, read_lock_of, write_of, buffer_of, show_of, show_told, shown_of, park_of, park_told, parked_of}
 use Rattle.engine.specs.State.{blank_of, word_at, lock_at, sheet_record, state_record}
-use Rattle.engine.specs.declared.CollectTold.{CollectTold}
-use Rattle.engine.specs.declared.Collected.{Collected}
+use Rattle.engine.specs.Calls.{Collected}
 use Rattle.engine.specs.declared.Engine.{Engine}
-use Rattle.engine.specs.declared.LockTold.{LockTold}
-use Rattle.engine.specs.declared.WordTold.{WordTold}
-use Rattle.engine.specs.declared.WriteTold.{WriteTold}
 use Rattle.refusals.specs.Orders.{begin_rows, plain_rows, step_rows, collect_rows, drop_rows, setup_rows, word_rows, lock_rows, show_rows, park_rows, Busy, Given, Exactly, Kept, Refusing}
 use borrow.Author.Tests.{lt-leb}
 use Rattle.refusals.proofs.Rows.{begin_rows_lem, plain_rows_lem, step_rows_lem, collect_rows_lem, drop_rows_lem, setup_rows_lem, show_rows_lem, park_rows_lem}
+use Rattle.engine.specs.Calls.{answered}
 
 -- what is told by a call whose told is the first of its rows that refuses
-by_rows : (told : Told) (rows : List Told) (r : Refusal) → told ≡ first_of rows → told ≡ Refused r ↔ Given rows r
+by_rows : (told : Told) (rows : List Told) (r : Refusal) → told ≡ first_of rows → told ≡ Err r ↔ Given rows r
 by_rows told rows r h = (λ k. (first_exactly rows r).0 (sym h ∙ k), λ g. h ∙ (first_exactly rows r).1 g)
 
 -- begin, step, drop and setup: the told and the state of their outcome
 outcome_told : (e : Engine) (t : Told) (next : Engine) → (outcome_of e t next).told ≡ t
-outcome_told e Accepted next = refl
-outcome_told e (Refused r) next = refl
+outcome_told e (Ok _) next = refl
+outcome_told e (Err r) next = refl
 
 outcome_kept :
     (e : Engine) (t : Told) (next : Engine) (r : Refusal) →
-    (outcome_of e t next).told ≡ Refused r → (outcome_of e t next).engine ≡ e
-outcome_kept e Accepted next r h = let z : ◌≡◌ {A = ℕ} 0 1 = cc in absurd (omega arith)
-outcome_kept e (Refused s) next r h = refl
+    (outcome_of e t next).told ≡ Err r → (outcome_of e t next).engine ≡ e
+outcome_kept e (Ok _) next r h = let z : ◌≡◌ {A = ℕ} 0 1 = cc in absurd (omega arith)
+outcome_kept e (Err s) next r h = refl
 
 -- the others tell a value, or a refusal of their own enum: `same` and `apart` say that the refusal is told by it
 module _ {A : Type 0} (refused : Refusal → A) (same : (s r : Refusal) → refused s ≡ refused r → s ≡ r) where
   told_refused :
       (t : Told) (value : A) (r : Refusal) → ((s : Refusal) → value ≡ refused s → ⊥) →
-      on_told t value refused ≡ refused r ↔ (t ≡ Refused r)
-  told_refused Accepted value r apart =
+      on_told t value refused ≡ refused r ↔ (t ≡ Err r)
+  told_refused (Ok _) value r apart =
       (λ h. absurd (apart r h), λ h. let z : ◌≡◌ {A = ℕ} 0 1 = cc in absurd (omega arith))
-  told_refused (Refused s) value r apart = (λ h. ap Refused (same s r h), λ h. let q : s ≡ r = cc in ap refused q)
+  told_refused (Err s) value r apart = (λ h. ap Err (same s r h), λ h. let q : s ≡ r = cc in ap refused q)
 
   by_told :
       (t : Told) (value : A) (rows : List Told) (r : Refusal) → ((s : Refusal) → value ≡ refused s → ⊥) → t ≡ first_of rows →
@@ -67,50 +63,50 @@ module _ {A : Type 0} (refused : Refusal → A) (same : (s r : Refusal) → refu
 -- collect's outcome: what it tells, and its state
 abbrev collected_of : Engine → Told → Engine → Answer → ℕ → ℕ → Collected
 collected_of e t next answer n m =
-    on_told t (record { engine = next; told = CollectTold.Answered answer n m })
-    (λ r. record { engine = e; told = CollectTold.Refused r })
+    on_told t (record { engine = next; told = Ok (answered answer n m) })
+    (λ r. record { engine = e; told = Err r })
 
 collected_told :
     (e : Engine) (t : Told) (next : Engine) (answer : Answer) (n m : ℕ) →
-    (collected_of e t next answer n m).told ≡ on_told t (CollectTold.Answered answer n m) CollectTold.Refused
-collected_told e Accepted next answer n m = refl
-collected_told e (Refused r) next answer n m = refl
+    (collected_of e t next answer n m).told ≡ on_told t (Ok (answered answer n m)) Err
+collected_told e (Ok _) next answer n m = refl
+collected_told e (Err r) next answer n m = refl
 
 collected_kept :
     (e : Engine) (t : Told) (next : Engine) (answer : Answer) (n m : ℕ) (r : Refusal) →
-    (collected_of e t next answer n m).told ≡ CollectTold.Refused r → (collected_of e t next answer n m).engine ≡ e
-collected_kept e Accepted next answer n m r h = let z : ◌≡◌ {A = ℕ} 0 1 = cc in absurd (omega arith)
-collected_kept e (Refused s) next answer n m r h = refl
+    (collected_of e t next answer n m).told ≡ Err r → (collected_of e t next answer n m).engine ≡ e
+collected_kept e (Ok _) next answer n m r h = let z : ◌≡◌ {A = ℕ} 0 1 = cc in absurd (omega arith)
+collected_kept e (Err s) next answer n m r h = refl
 
 collected_exactly :
     (e : Engine) (t : Told) (next : Engine) (answer : Answer) (n m : ℕ) (rows : List Told) (r : Refusal) → t ≡ first_of rows →
-    (collected_of e t next answer n m).told ≡ CollectTold.Refused r ↔ Given rows r
+    (collected_of e t next answer n m).told ≡ Err r ↔ Given rows r
 collected_exactly e t next answer n m rows r h =
     let same = collected_told e t next answer n m in
-    let told = by_told CollectTold.Refused (λ s q k. cc) t (CollectTold.Answered answer n m) rows r
+    let told = by_told Err (λ s q k. cc) t (Ok (answered answer n m)) rows r
     (λ s k. let z : ◌≡◌ {A = ℕ} 0 1 = cc in absurd (omega arith)) h in
     (λ k. told.0 (sym same ∙ k), λ g. same ∙ told.1 g)
 
 -- the writers tell how many bytes, or a refusal; refused, they leave the buffer
 write_exactly :
     (t : Told) (bytes : List ℕ) (rows : List Told) (r : Refusal) → t ≡ first_of rows →
-    write_of t bytes ≡ WriteTold.Refused r ↔ Given rows r
+    write_of t bytes ≡ Err r ↔ Given rows r
 write_exactly t bytes rows r h =
-    by_told WriteTold.Refused (λ s q k. cc) t (WriteTold.Wrote (length bytes)) rows r
+    by_told Err (λ s q k. cc) t (Ok (length bytes)) rows r
     (λ s k. let z : ◌≡◌ {A = ℕ} 0 1 = cc in absurd (omega arith)) h
 
 write_kept :
-    (t : Told) (bytes buf : List ℕ) (r : Refusal) → write_of t bytes ≡ WriteTold.Refused r → buffer_of t bytes buf ≡ buf
-write_kept Accepted bytes buf r h = let z : ◌≡◌ {A = ℕ} 0 1 = cc in absurd (omega arith)
-write_kept (Refused s) bytes buf r h = refl
+    (t : Told) (bytes buf : List ℕ) (r : Refusal) → write_of t bytes ≡ Err r → buffer_of t bytes buf ≡ buf
+write_kept (Ok _) bytes buf r h = let z : ◌≡◌ {A = ℕ} 0 1 = cc in absurd (omega arith)
+write_kept (Err s) bytes buf r h = refl
 
 -- the plain engine, by what was told of its tables and its record
 plain_kept :
     (values guards : List ℕ) (l : ℕ) (rec : List ℕ) (t : Told) (r : Refusal) →
-    on_told t (ran_told (alone_of (job_of rec) values)) (λ q. PlainTold.Refused q) ≡ PlainTold.Refused r →
+    on_told t (ran_told (alone_of (job_of rec) values)) (λ q. Err q) ≡ Err r →
     on_told t (alone_of (job_of rec) values).words (λ q. values) ≡ values
-plain_kept values guards l rec Accepted r h = let z : ◌≡◌ {A = ℕ} 0 1 = cc in absurd (omega arith)
-plain_kept values guards l rec (Refused s) r h = refl
+plain_kept values guards l rec (Ok _) r h = let z : ◌≡◌ {A = ℕ} 0 1 = cc in absurd (omega arith)
+plain_kept values guards l rec (Err s) r h = refl
 
 -- each refusal of each call is given exactly when its row is the first that refuses
 pub exactly : (r : Refusal) → Exactly r
@@ -124,17 +120,17 @@ exactly r =
       setup = λ rec. by_rows _ (setup_rows rec) r (outcome_told blank_of _ _ ∙ setup_rows_lem rec);
       read_word =
           λ e i.
-          by_told WordTold.Refused (λ s q h. cc) _ (WordTold.Is (word_at e i)) (word_rows e i) r
+          by_told Err (λ s q h. cc) _ (Ok (word_at e i)) (word_rows e i) r
           (λ s h. let z : ◌≡◌ {A = ℕ} 0 1 = cc in absurd (omega arith)) refl;
       read_lock =
           λ e l.
-          by_told LockTold.Refused (λ s q h. cc) _ (LockTold.Is (lock_at e l)) (lock_rows e l) r
+          by_told Err (λ s q h. cc) _ (Ok (lock_at e l)) (lock_rows e l) r
           (λ s h. let z : ◌≡◌ {A = ℕ} 0 1 = cc in absurd (omega arith)) refl;
       show = λ e s room. write_exactly _ (sheet_record e s) (show_rows e s room) r (show_rows_lem e s room);
       park = λ e room. write_exactly _ (state_record e) (park_rows e room) r (park_rows_lem e room);
       plain =
           λ values guards l rec.
-          by_told PlainTold.Refused (λ s q h. cc) _ (ran_told (alone_of (job_of rec) values)) (plain_rows values guards l rec) r
+          by_told Err (λ s q h. cc) _ (ran_told (alone_of (job_of rec) values)) (plain_rows values guards l rec) r
           (λ s h. let z : ◌≡◌ {A = ℕ} 0 1 = cc in absurd (omega arith)) (plain_rows_lem values guards l rec);
     }
 
@@ -156,9 +152,9 @@ refused_state r =
 -- an outcome that is refused with r
 outcome_refusing :
     (e : Engine) (t : Told) (next : Engine) (r : Refusal) →
-    t ≡ Refused r → Refusing e (outcome_of e t next) (refusal_number r) (refusal_place r)
-outcome_refusing e Accepted next r h = let z : ◌≡◌ {A = ℕ} 0 1 = cc in absurd (omega arith)
-outcome_refusing e (Refused s) next r h =
+    t ≡ Err r → Refusing e (outcome_of e t next) (refusal_number r) (refusal_place r)
+outcome_refusing e (Ok _) next r h = let z : ◌≡◌ {A = ℕ} 0 1 = cc in absurd (omega arith)
+outcome_refusing e (Err s) next r h =
     let q : s ≡ r = cc in
     record { told = (ap refusal_number q, ap refusal_place q); state = refl }
 

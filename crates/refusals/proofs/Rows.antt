@@ -1,20 +1,18 @@
 -- Each call's order is that of its rows, one after the other: where a definition has an order within an order, the rows of the
 -- inner one stand in its place.
+use Rattle.std.specs.Prelude.{Err, None, Ok, Option, Some}
 use Prim.Native.Nat.{ℕ, ◌+◌, ◌*◌}
 use mathlib.Core.Path.{◌≡◌, refl, ◌∙◌, sym, ap}
 use mathlib.Core.Bool.{true, false}
 use mathlib.Core.List.{List, [], ◌∷◌, ◌++◌}
 use Rattle.arrays.specs.Fresh.{guards_of}
 use Rattle.arrays.specs.Held.{held_told}
-use Rattle.parts.specs.Pick.{on_holder}
+use Rattle.parts.specs.Pick.{on_option}
 use Rattle.parts.specs.Told.{refuse_if, ◌then◌, first_of}
-use Rattle.parts.specs.declared.Holder.{Holder}
-use Rattle.parts.specs.declared.Holder.TheVariants.{Free, By}
 use Rattle.parts.specs.declared.Instr.{Instr}
 use Rattle.parts.specs.declared.LockWord.{LockWord}
 use Rattle.parts.specs.declared.Refusal.TheVariants.{WorkerUnderWay, NotCollected, WorkerIdle, Held}
-use Rattle.parts.specs.declared.Told.{Told}
-use Rattle.parts.specs.declared.Told.TheVariants.{Accepted, Refused}
+use Rattle.parts.specs.Told.{Told}
 use Rattle.parts.proofs.Order.{first_cons}
 use Rattle.records.specs.Job.{job_of, told_by, code_told, instr_told}
 use Rattle.records.specs.Setup.{guards_field, locks_field, turns_field, words_field, setup_told, guards_told, turns_told}
@@ -30,8 +28,8 @@ use Rattle.refusals.specs.Orders.{code_rows, begin_rows, plain_rows, step_rows, 
 
 -- an order within an order, and rows before others
 then_assoc : (t u v : Told) → ((t then u) then v) ≡ (t then (u then v))
-then_assoc Accepted u v = refl
-then_assoc (Refused r) u v = refl
+then_assoc (Ok _) u v = refl
+then_assoc (Err r) u v = refl
 
 first_append : (ts us : List Told) → first_of (ts ++ us) ≡ (first_of ts then first_of us)
 first_append [] us = refl
@@ -60,10 +58,10 @@ turn_rows_lem [] place = refl
 turn_rows_lem (t ∷ ts) place = simp (first_cons, turn_rows_lem ts (place + 4))
 
 held_state :
-    (h : Holder) (t : Told) (at : ℕ) →
-    on_holder h t (λ s. Refused (Held at)) ≡ (refuse_if (on_holder h false (λ s. true)) (Held at) then t)
-held_state Free t at = refl
-held_state (By s) t at = refl
+    (h : Option ℕ) (t : Told) (at : ℕ) →
+    on_option h t (λ s. Err (Held at)) ≡ (refuse_if (on_option h false (λ s. true)) (Held at) then t)
+held_state None t at = refl
+held_state (Some s) t at = refl
 
 held_rows_lem : (ls : List LockWord) (at : ℕ) → held_told ls at ≡ first_of (held_rows ls at)
 unfolding held_told held_rows
@@ -74,7 +72,7 @@ held_rows_lem (l ∷ ls) at =
 -- the rows that go by the worker's state
 begin_state :
     (s : State) →
-    on_state s Accepted (λ p. Refused WorkerUnderWay) (λ x. Refused NotCollected) ≡
+    on_state {A = Told} s (Ok tt) (λ p. Err WorkerUnderWay) (λ x. Err NotCollected) ≡
     (refuse_if (is_under_way s) WorkerUnderWay then refuse_if (is_finished s) NotCollected)
 begin_state Idle = refl
 begin_state (UnderWay p) = refl
@@ -82,7 +80,7 @@ begin_state (Finished x) = refl
 
 step_state :
     (s : State) →
-    on_state s (Refused WorkerIdle) (λ p. Accepted) (λ x. Refused NotCollected) ≡
+    on_state {A = Told} s (Err WorkerIdle) (λ p. Ok tt) (λ x. Err NotCollected) ≡
     (refuse_if (is_idle s) WorkerIdle then refuse_if (is_finished s) NotCollected)
 step_state Idle = refl
 step_state (UnderWay p) = refl
@@ -90,13 +88,13 @@ step_state (Finished x) = refl
 
 collect_state :
     (s : State) →
-    on_state s (Refused WorkerIdle) (λ p. Refused WorkerUnderWay) (λ x. Accepted) ≡
+    on_state {A = Told} s (Err WorkerIdle) (λ p. Err WorkerUnderWay) (λ x. Ok tt) ≡
     (refuse_if (is_idle s) WorkerIdle then refuse_if (is_under_way s) WorkerUnderWay)
 collect_state Idle = refl
 collect_state (UnderWay p) = refl
 collect_state (Finished x) = refl
 
-drop_state : (s : State) → on_state s (Refused WorkerIdle) (λ p. Accepted) (λ x. Accepted) ≡ refuse_if (is_idle s) WorkerIdle
+drop_state : (s : State) → on_state {A = Told} s (Err WorkerIdle) (λ p. Ok tt) (λ x. Ok tt) ≡ refuse_if (is_idle s) WorkerIdle
 drop_state Idle = refl
 drop_state (UnderWay p) = refl
 drop_state (Finished x) = refl

@@ -142,7 +142,7 @@ show_rows e s room =
 
 -- 15: "a lock is held", "lowest held lock": of the locks from `at` on
 abbrev pub is_held : LockWord → Bool
-is_held l = on_holder l.holder false (λ s. true)
+is_held l = on_option l.holder false (λ s. true)
 
 unfoldable pub held_rows : List LockWord → ℕ → List Told
 held_rows [] at = []
@@ -165,38 +165,38 @@ Given rows r = (i : ℕ) × FirstAt rows r i
 -- Demand 1, "given exactly when": what each call tells on any input.
 pub record Exactly (r : Refusal) : Type 0 where
   pub begin :
-      (e : Engine) (w l : ℕ) (rec : List ℕ) → (begin_of e w l rec).told ≡ Refused r ↔ Given (begin_rows e w l rec) r
-  pub step : (e : Engine) (w : ℕ) → (step_of e w).told ≡ Refused r ↔ Given (step_rows e w) r
-  pub collect : (e : Engine) (w : ℕ) → (collect_of e w).told ≡ CollectTold.Refused r ↔ Given (collect_rows e w) r
-  pub drop : (e : Engine) (w : ℕ) → (drop_of e w).told ≡ Refused r ↔ Given (drop_rows e w) r
-  pub setup : (rec : List ℕ) → (setup_of rec).told ≡ Refused r ↔ Given (setup_rows rec) r
-  pub read_word : (e : Engine) (i : ℕ) → read_word_of e i ≡ WordTold.Refused r ↔ Given (word_rows e i) r
-  pub read_lock : (e : Engine) (l : ℕ) → read_lock_of e l ≡ LockTold.Refused r ↔ Given (lock_rows e l) r
-  pub show : (e : Engine) (s room : ℕ) → show_of e s room ≡ WriteTold.Refused r ↔ Given (show_rows e s room) r
-  pub park : (e : Engine) (room : ℕ) → park_of e room ≡ WriteTold.Refused r ↔ Given (park_rows e room) r
+      (e : Engine) (w l : ℕ) (rec : List ℕ) → (begin_of e w l rec).told ≡ Err r ↔ Given (begin_rows e w l rec) r
+  pub step : (e : Engine) (w : ℕ) → (step_of e w).told ≡ Err r ↔ Given (step_rows e w) r
+  pub collect : (e : Engine) (w : ℕ) → (collect_of e w).told ≡ Err r ↔ Given (collect_rows e w) r
+  pub drop : (e : Engine) (w : ℕ) → (drop_of e w).told ≡ Err r ↔ Given (drop_rows e w) r
+  pub setup : (rec : List ℕ) → (setup_of rec).told ≡ Err r ↔ Given (setup_rows rec) r
+  pub read_word : (e : Engine) (i : ℕ) → read_word_of e i ≡ Err r ↔ Given (word_rows e i) r
+  pub read_lock : (e : Engine) (l : ℕ) → read_lock_of e l ≡ Err r ↔ Given (lock_rows e l) r
+  pub show : (e : Engine) (s room : ℕ) → show_of e s room ≡ Err r ↔ Given (show_rows e s room) r
+  pub park : (e : Engine) (room : ℕ) → park_of e room ≡ Err r ↔ Given (park_rows e room) r
   pub plain :
       (values guards : List ℕ) (l : ℕ) (rec : List ℕ) →
-      plain_of values guards l rec ≡ PlainTold.Refused r ↔ Given (plain_rows values guards l rec) r
+      plain_of values guards l rec ≡ Err r ↔ Given (plain_rows values guards l rec) r
 
 -- "A refusal returns its number and place, the state as it came (setup: the blank one), and not one byte of the buffer altered."
 pub record Kept (r : Refusal) : Type 0 where
   pub begin :
-      (e : Engine) (w l : ℕ) (rec : List ℕ) → (begin_of e w l rec).told ≡ Refused r → (begin_of e w l rec).engine ≡ e
-  pub step : (e : Engine) (w : ℕ) → (step_of e w).told ≡ Refused r → (step_of e w).engine ≡ e
-  pub collect : (e : Engine) (w : ℕ) → (collect_of e w).told ≡ CollectTold.Refused r → (collect_of e w).engine ≡ e
-  pub drop : (e : Engine) (w : ℕ) → (drop_of e w).told ≡ Refused r → (drop_of e w).engine ≡ e
-  pub setup : (rec : List ℕ) → (setup_of rec).told ≡ Refused r → (setup_of rec).engine ≡ blank_of
+      (e : Engine) (w l : ℕ) (rec : List ℕ) → (begin_of e w l rec).told ≡ Err r → (begin_of e w l rec).engine ≡ e
+  pub step : (e : Engine) (w : ℕ) → (step_of e w).told ≡ Err r → (step_of e w).engine ≡ e
+  pub collect : (e : Engine) (w : ℕ) → (collect_of e w).told ≡ Err r → (collect_of e w).engine ≡ e
+  pub drop : (e : Engine) (w : ℕ) → (drop_of e w).told ≡ Err r → (drop_of e w).engine ≡ e
+  pub setup : (rec : List ℕ) → (setup_of rec).told ≡ Err r → (setup_of rec).engine ≡ blank_of
   pub show :
-      (e : Engine) (s : ℕ) (buf : List ℕ) → show_of e s (length buf) ≡ WriteTold.Refused r → shown_of e s buf ≡ buf
-  pub park : (e : Engine) (buf : List ℕ) → park_of e (length buf) ≡ WriteTold.Refused r → parked_of e buf ≡ buf
+      (e : Engine) (s : ℕ) (buf : List ℕ) → show_of e s (length buf) ≡ Err r → shown_of e s buf ≡ buf
+  pub park : (e : Engine) (buf : List ℕ) → park_of e (length buf) ≡ Err r → parked_of e buf ≡ buf
   pub plain :
-      (values guards : List ℕ) (l : ℕ) (rec : List ℕ) → plain_of values guards l rec ≡ PlainTold.Refused r →
+      (values guards : List ℕ) (l : ℕ) (rec : List ℕ) → plain_of values guards l rec ≡ Err r →
       plain_left values guards l rec ≡ values
 
 -- a refusal of this number and place
 abbrev pub Refuses : Told → ℕ → ℕ → Type 0
-Refuses Accepted number place = ⊥
-Refuses (Refused r) number place = (refusal_number r ≡ number) × (refusal_place r ≡ place)
+Refuses (Ok _) number place = ⊥
+Refuses (Err r) number place = (refusal_number r ≡ number) × (refusal_place r ≡ place)
 
 -- a call on state e is refused so, and the state is as it came
 pub record Refusing (e : Engine) (o : Outcome) (number place : ℕ) : Type 0 where

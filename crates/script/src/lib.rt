@@ -1,67 +1,45 @@
 // What a line of the script is: words separated by single spaces, of which the first names the call.
 #![tactic(auto)]
 
-ghost use Rattle.std.specs.Prelude.{◌≡◌, ◌≤◌, ◌/◌, min, length, take};
+ghost use Rattle.std.specs.Prelude.{◌≡◌, ◌≤◌, ◌/◌, min, length};
 ghost use Rattle.text.specs.Text.{most_bytes};
 ghost use Rattle.script.specs.Line.{first_at, past_of, before_of, after_of, with_digit, digits_from, number_of, pair_of, hex_digit, all_hex};
-ghost use Rattle.script.specs.Line.{same_of, is_record, hex_byte, record_in, one_verb, verb_of, setup_line, lock_line, begin_line, step_line, show_line};
-ghost use Rattle.script.specs.Line.{park_line, one_number, one_line, call_of, line_of};
+ghost use Rattle.script.specs.Line.{is_record, hex_byte, record_in, one_verb, verb_of, setup_line, lock_line, begin_line, step_line, show_line};
+ghost use Rattle.script.specs.Line.{park_line, one_number, one_line, call_of, named_call, line_of};
+
+use arrayvec::ArrayVec;
 
 // The first place of x in s; past the end where it is not there.
 pub fn first_at(s: &[u8], x: u8) -> usize
     ensures value { result ≡ first_at x s.now }
     ensures upper_bound { result ≤ length s.now }
 {
-    let mut j: usize = 0;
-    while j < s.len() {
-        if s[j] == x {
-            return j;
-        }
-        j += 1;
-    }
-    j
+    s.iter().position(|&b| b == x).unwrap_or(s.len())
 }
 
 // The place after the first x; the end where it is not there.
+#[tactic(auto, unfolding(crate::specs::Line::past_of))]
 pub fn past(s: &[u8], x: u8) -> usize
     ensures value { result ≡ past_of x s.now }
     ensures lower_bound { (min 1 (length s.now) ≤ result) × (result ≤ length s.now) }
 {
-    let at = first_at(s, x);
-    if at < s.len() {
-        return at + 1;
-    }
-    at
+    (first_at(s, x) + 1).min(s.len())
 }
 
 // The bytes before the first x.
+#[tactic(auto, unfolding(crate::specs::Line::before_of))]
 pub fn before(s: &[u8], x: u8) -> &[u8]
     ensures { result.now ≡ before_of x s.now }
 {
-    let at = first_at(s, x);
-    &s[..at]
+    &s[..first_at(s, x)]
 }
 
 // The bytes after the first x.
+#[tactic(auto, unfolding(crate::specs::Line::after_of))]
 pub fn after(s: &[u8], x: u8) -> &[u8]
     ensures { result.now ≡ after_of x s.now }
 {
-    let at = past(s, x);
-    &s[at..]
-}
-
-// A word of the script as a number.
-#[derive(Clone, Copy)]
-pub enum Number {
-    Is(u32),
-    Not,
-}
-
-// Two numbers.
-#[derive(Clone, Copy)]
-pub enum Pair {
-    Is(u32, u32),
-    Not,
+    &s[past(s, x)..]
 }
 
 // The call that a line's first word names.
@@ -76,7 +54,6 @@ pub enum Verb {
     Lock,
     Show,
     Park,
-    Other,
 }
 
 // A call with its numbers. The record of a setup or a begin is the line's last word.
@@ -100,330 +77,225 @@ pub enum Line {
     Bad,
 }
 
-// The digit d after the number n, where that is still a number.
-fn with_digit(n: u32, b: u8) -> Number
+// The digit b after the number n, where that is still a number.
+#[tactic(auto, using(crate::proofs::Laws::digit_none, crate::proofs::Laws::digit_added))]
+fn with_digit(n: u32, b: u8) -> Option<u32>
     ensures { result ≡ with_digit n b }
 {
-    if b < 48 {
-        return Number::Not;
-    }
-    if 57 < b {
-        return Number::Not;
-    }
-    let next = (n as u64) * 10 + (b as u64) - 48;
-    if 4294967295 < next {
-        return Number::Not;
-    }
-    Number::Is(next as u32)
+    let digit = char::from(b).to_digit(10)?;
+    n.checked_mul(10)?.checked_add(digit)
 }
 
-fn digits_of(word: &[u8]) -> Number
+#[tactic(auto, unfolding(crate::specs::Line::digits_from))]
+fn digits_of(word: &[u8]) -> Option<u32>
     ensures { result ≡ digits_from 0 word.now }
 {
     let mut n: u32 = 0;
-    let mut j: usize = 0;
-    while j < word.len() {
-        let next = with_digit(n, word[j]);
-        match next {
-            Number::Not => return Number::Not,
-            Number::Is(m) => {
-                n = m;
-                j += 1;
-                continue;
-            }
-        }
+    for &b in word {
+        n = with_digit(n, b)?;
     }
-    Number::Is(n)
+    Some(n)
 }
 
 // One to ten decimal digits, at most 4294967295.
-fn number_of(word: &[u8]) -> Number
+#[tactic(auto, unfolding(crate::specs::Line::number_of))]
+fn number_of(word: &[u8]) -> Option<u32>
     ensures { result ≡ number_of word.now }
 {
-    if word.len() < 1 {
-        return Number::Not;
+    match word.len() {
+        1..=10 => digits_of(word),
+        _ => None,
     }
-    if 10 < word.len() {
-        return Number::Not;
-    }
-    digits_of(word)
 }
 
 // Two words that are numbers, and no more.
-fn pair_of(words: &[u8]) -> Pair
+#[tactic(auto, unfolding(crate::specs::Line::pair_of))]
+fn pair_of(words: &[u8]) -> Option<(u32, u32)>
     ensures { result ≡ pair_of words.now }
 {
-    let first = number_of(before(words, 32));
-    match first {
-        Number::Not => Pair::Not,
-        Number::Is(a) => {
-            let second = number_of(after(words, 32));
-            match second {
-                Number::Not => Pair::Not,
-                Number::Is(b) => Pair::Is(a, b),
-            }
-        }
-    }
+    let first = number_of(before(words, b' '))?;
+    let second = number_of(after(words, b' '))?;
+    Some((first, second))
 }
 
-// What a hexadecimal digit stands for; 16 of any other byte.
-fn hex_digit(b: u8) -> u8
+// What a hexadecimal digit stands for, in either case.
+#[tactic(auto, using(crate::proofs::Laws::hex_by))]
+fn hex_digit(b: u8) -> Option<u32>
     ensures { result ≡ hex_digit b }
 {
-    if b < 48 {
-        return 16;
-    }
-    if b < 58 {
-        return b - 48;
-    }
-    if b < 65 {
-        return 16;
-    }
-    if b < 71 {
-        return b - 55;
-    }
-    if b < 97 {
-        return 16;
-    }
-    if b < 103 {
-        return b - 87;
-    }
-    16
+    char::from(b).to_digit(16)
 }
 
 fn all_hex(word: &[u8]) -> bool
     ensures { result ≡ all_hex word.now }
 {
-    let mut j: usize = 0;
-    while j < word.len() {
-        let d = hex_digit(word[j]);
-        if 15 < d {
-            return false;
-        }
-        j += 1;
-    }
-    true
-}
-
-// Are the two the same bytes?
-fn same(a: &[u8], b: &[u8]) -> bool
-    ensures { result ≡ same_of a.now b.now }
-{
-    if a.len() == b.len() {
-        let mut j: usize = 0;
-        while j < a.len() {
-            if a[j] == b[j] {
-                j += 1;
-                continue;
-            }
-            return false;
-        }
-        return true;
-    }
-    false
+    word.iter().all(|&b| hex_digit(b).is_some())
 }
 
 // 1 to 512 bytes, two digits a byte; or `-` for none.
+#[tactic(auto, using(crate::proofs::Laws::reading), unfolding(crate::specs::Line::is_record))]
 fn is_record(word: &[u8]) -> bool
     ensures { result ≡ is_record word.now }
 {
-    if same(word, b"-") {
+    if word == b"-".as_slice() {
         return true;
     }
-    if word.len() < 2 {
-        return false;
+    match word.len() {
+        2..=1024 => word.len() % 2 == 0 && all_hex(word),
+        _ => false,
     }
-    if 1024 < word.len() {
-        return false;
-    }
-    if word.len() % 2 == 0 {
-        return all_hex(word);
-    }
-    false
 }
 
+#[tactic(auto, using(crate::proofs::Laws::digit_within), unfolding(crate::specs::Line::hex_byte))]
 fn byte_of(high: u8, low: u8) -> u8
     ensures { result ≡ hex_byte high low }
 {
-    hex_digit(high) % 16 * 16 + hex_digit(low) % 16
-}
-
-// A record's bytes, and how many there are.
-#[derive(Clone, Copy)]
-pub struct Record {
-    pub bytes: [u8; 512],
-    pub length: usize,
+    (hex_digit(high).unwrap_or(0) * 16 + hex_digit(low).unwrap_or(0)) as u8
 }
 
 // How many bytes a word stands for.
 fn byte_count(word: &[u8]) -> usize
     ensures { result ≡ min (length word.now / 2) most_bytes }
 {
-    let n = word.len() / 2;
-    if 512 < n {
-        return 512;
-    }
-    n
+    (word.len() / 2).min(512)
 }
 
-pub fn record_of(word: &[u8]) -> Record
-    ensures bytes_value { take result.length result.bytes ≡ record_in word.now }
-    ensures length_in_bounds { (result.length ≤ length result.bytes) × (result.length ≡ length (take result.length result.bytes)) }
+// A record's bytes, at most 512.
+pub fn record_of(word: &[u8]) -> ArrayVec<u8, 512>
+    ensures { result.items ≡ record_in word.now }
 {
-    let n = byte_count(word);
-    let mut bytes = [0u8; 512];
-    let mut j: usize = 0;
-    while j < n {
-        bytes[j] = byte_of(word[2 * j], word[2 * j + 1]);
-        j += 1;
+    let mut bytes = ArrayVec::new();
+    for j in 0..byte_count(word) {
+        bytes.push(byte_of(word[2 * j], word[2 * j + 1]));
     }
-    Record { bytes, length: n }
+    bytes
 }
 
 // The words with one number after them.
-fn one_verb(word: &[u8]) -> Verb
+#[tactic(auto, using(crate::proofs::Laws::reading), unfolding(crate::specs::Line::one_verb))]
+fn one_verb(word: &[u8]) -> Option<Verb>
     ensures { result ≡ one_verb word.now }
 {
-    if same(word, b"collect") {
-        return Verb::Collect;
+    // A chain of tests: where a `match` takes a byte string, the prover is told of its length alone.
+    if word == b"collect".as_slice() {
+        return Some(Verb::Collect);
     }
-    if same(word, b"drop") {
-        return Verb::Drop;
+    if word == b"drop".as_slice() {
+        return Some(Verb::Drop);
     }
-    if same(word, b"word") {
-        return Verb::Word;
+    if word == b"word".as_slice() {
+        return Some(Verb::Word);
     }
-    if same(word, b"lock") {
-        return Verb::Lock;
+    if word == b"lock".as_slice() {
+        return Some(Verb::Lock);
     }
-    if same(word, b"park") {
-        return Verb::Park;
+    if word == b"park".as_slice() {
+        return Some(Verb::Park);
     }
-    Verb::Other
+    None
 }
 
-fn verb_of(word: &[u8]) -> Verb
+#[tactic(auto, using(crate::proofs::Laws::reading), unfolding(crate::specs::Line::verb_of))]
+fn verb_of(word: &[u8]) -> Option<Verb>
     ensures { result ≡ verb_of word.now }
 {
-    if same(word, b"setup") {
-        return Verb::Setup;
+    if word == b"setup".as_slice() {
+        return Some(Verb::Setup);
     }
-    if same(word, b"begin") {
-        return Verb::Begin;
+    if word == b"begin".as_slice() {
+        return Some(Verb::Begin);
     }
-    if same(word, b"step") {
-        return Verb::Step;
+    if word == b"step".as_slice() {
+        return Some(Verb::Step);
     }
-    if same(word, b"show") {
-        return Verb::Show;
+    if word == b"show".as_slice() {
+        return Some(Verb::Show);
     }
     one_verb(word)
 }
 
-fn setup_line(words: &[u8]) -> Line
+#[tactic(auto, unfolding(crate::specs::Line::setup_line))]
+fn setup_line(words: &[u8]) -> Option<Call>
     ensures { result ≡ setup_line words.now }
 {
     if is_record(words) {
-        return Line::Makes(Call::Setup);
+        Some(Call::Setup)
+    } else {
+        None
     }
-    Line::Bad
 }
 
 // The lock and the record of a begin of worker w.
-fn lock_line(w: u32, words: &[u8]) -> Line
+#[tactic(auto, unfolding(crate::specs::Line::lock_line))]
+fn lock_line(w: u32, words: &[u8]) -> Option<Call>
     ensures { result ≡ lock_line w words.now }
 {
-    let lock = number_of(before(words, 32));
-    match lock {
-        Number::Not => Line::Bad,
-        Number::Is(k) => {
-            if is_record(after(words, 32)) {
-                return Line::Makes(Call::Begin(w, k));
-            }
-            Line::Bad
-        }
-    }
+    let lock = number_of(before(words, b' '))?;
+    is_record(after(words, b' ')).then_some(Call::Begin(w, lock))
 }
 
-fn begin_line(words: &[u8]) -> Line
+#[tactic(auto, unfolding(crate::specs::Line::begin_line))]
+fn begin_line(words: &[u8]) -> Option<Call>
     ensures { result ≡ begin_line words.now }
 {
-    let worker = number_of(before(words, 32));
-    match worker {
-        Number::Not => Line::Bad,
-        Number::Is(w) => lock_line(w, after(words, 32)),
-    }
+    let worker = number_of(before(words, b' '))?;
+    lock_line(worker, after(words, b' '))
 }
 
-fn step_line(words: &[u8]) -> Line
+#[tactic(auto, unfolding(crate::specs::Line::step_line))]
+fn step_line(words: &[u8]) -> Option<Call>
     ensures { result ≡ step_line words.now }
 {
-    let one = number_of(words);
-    match one {
-        Number::Is(w) => Line::Makes(Call::Step(w, 1)),
-        Number::Not => {
-            let two = pair_of(words);
-            match two {
-                Pair::Is(w, n) => Line::Makes(Call::Step(w, n)),
-                Pair::Not => Line::Bad,
-            }
-        }
+    if let Some(w) = number_of(words) {
+        return Some(Call::Step(w, 1));
     }
+    let (w, n) = pair_of(words)?;
+    Some(Call::Step(w, n))
 }
 
-fn show_line(words: &[u8]) -> Line
+#[tactic(auto, unfolding(crate::specs::Line::show_line))]
+fn show_line(words: &[u8]) -> Option<Call>
     ensures { result ≡ show_line words.now }
 {
-    let two = pair_of(words);
-    match two {
-        Pair::Not => Line::Bad,
-        Pair::Is(s, n) => {
-            if 512 < n {
-                return Line::Bad;
-            }
-            Line::Makes(Call::Show(s, n))
-        }
+    let (s, n) = pair_of(words)?;
+    if 512 < n {
+        None
+    } else {
+        Some(Call::Show(s, n))
     }
 }
 
-fn park_line(n: u32) -> Line
+#[tactic(auto, unfolding(crate::specs::Line::park_line))]
+fn park_line(n: u32) -> Option<Call>
     ensures { result ≡ park_line n }
 {
-    if 512 < n {
-        return Line::Bad;
-    }
-    Line::Makes(Call::Park(n))
+    (n <= 512).then_some(Call::Park(n))
 }
 
 // The calls that take one number.
-fn one_number(verb: Verb, n: u32) -> Line
+#[tactic(auto, unfolding(crate::specs::Line::one_number))]
+fn one_number(verb: Verb, n: u32) -> Option<Call>
     ensures { result ≡ one_number verb n }
 {
     match verb {
-        Verb::Setup => Line::Bad,
-        Verb::Begin => Line::Bad,
-        Verb::Step => Line::Bad,
-        Verb::Collect => Line::Makes(Call::Collect(n)),
-        Verb::Drop => Line::Makes(Call::Drop(n)),
-        Verb::Word => Line::Makes(Call::Word(n)),
-        Verb::Lock => Line::Makes(Call::Lock(n)),
-        Verb::Show => Line::Bad,
+        Verb::Collect => Some(Call::Collect(n)),
+        Verb::Drop => Some(Call::Drop(n)),
+        Verb::Word => Some(Call::Word(n)),
+        Verb::Lock => Some(Call::Lock(n)),
         Verb::Park => park_line(n),
-        Verb::Other => Line::Bad,
+        Verb::Setup | Verb::Begin | Verb::Step | Verb::Show => None,
     }
 }
 
-fn one_line(verb: Verb, words: &[u8]) -> Line
+#[tactic(auto, unfolding(crate::specs::Line::one_line))]
+fn one_line(verb: Verb, words: &[u8]) -> Option<Call>
     ensures { result ≡ one_line verb words.now }
 {
-    let one = number_of(words);
-    match one {
-        Number::Not => Line::Bad,
-        Number::Is(n) => one_number(verb, n),
-    }
+    one_number(verb, number_of(words)?)
 }
 
-fn call_of(verb: Verb, words: &[u8]) -> Line
+#[tactic(auto, unfolding(crate::specs::Line::call_of))]
+fn call_of(verb: Verb, words: &[u8]) -> Option<Call>
     ensures { result ≡ call_of verb words.now }
 {
     match verb {
@@ -431,25 +303,29 @@ fn call_of(verb: Verb, words: &[u8]) -> Line
         Verb::Begin => begin_line(words),
         Verb::Step => step_line(words),
         Verb::Show => show_line(words),
-        Verb::Collect => one_line(Verb::Collect, words),
-        Verb::Drop => one_line(Verb::Drop, words),
-        Verb::Word => one_line(Verb::Word, words),
-        Verb::Lock => one_line(Verb::Lock, words),
-        Verb::Park => one_line(Verb::Park, words),
-        Verb::Other => Line::Bad,
+        Verb::Collect | Verb::Drop | Verb::Word | Verb::Lock | Verb::Park => one_line(verb, words),
     }
 }
 
+// The call that a line names with all its words.
+#[tactic(auto, unfolding(crate::specs::Line::named_call))]
+fn named_call(text: &[u8]) -> Option<Call>
+    ensures { result ≡ named_call text.now }
+{
+    let verb = verb_of(before(text, b' '))?;
+    call_of(verb, after(text, b' '))
+}
+
 // A line that starts with `#` or is empty is passed over.
+#[tactic(auto, unfolding(crate::specs::Line::line_of))]
 pub fn line_of(text: &[u8]) -> Line
     ensures { result ≡ line_of text.now }
 {
-    if text.len() == 0 {
+    if text.is_empty() || text[0] == b'#' {
         return Line::Passed;
     }
-    if text[0] == 35 {
-        return Line::Passed;
+    match named_call(text) {
+        Some(call) => Line::Makes(call),
+        None => Line::Bad,
     }
-    let verb = verb_of(before(text, 32));
-    call_of(verb, after(text, 32))
 }

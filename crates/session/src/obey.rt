@@ -1,24 +1,25 @@
 // The call that a line names, made on the engine, and what is told of it.
-ghost use Rattle.std.specs.Prelude.{◌≡◌, length};
+ghost use Rattle.std.specs.Prelude.{◌≡◌};
 ghost use Rattle.engine.specs.Calls.{setup_of, begin_of, collect_of, drop_of, read_word_of, read_lock_of};
-ghost use Rattle.session.specs.Reply.{quiet_of, steps_from, script_collect, script_word, script_lock, script_write, script_show, script_park};
-ghost use Rattle.session.specs.Reply.{filled_with, plain_of, setup_record_in, fourth_word, begin_record_in, reply_of};
+ghost use Rattle.session.specs.Reply.{quiet_of, steps_from, script_collect, script_word, script_lock, script_show, script_park};
+ghost use Rattle.session.specs.Reply.{filled_with, plain_reply, write_reply, setup_record_in, fourth_word, begin_record_in, reply_of};
 
 use crate::reply_text::{Tail, lent};
-use engine::{CollectTold, Engine, LockTold, Outcome, WordTold, WriteTold};
-use parts::{Holder, Told};
+use engine::{Engine, Outcome};
+use parts::Refusal;
 use script::{Call, after, record_of};
 
-// What a call gives: the next state, whether it was accepted, what else it told, and the bytes that a writer was lent.
+// What a call told: whether it was accepted, what else, and the bytes that a writer was lent, all 512: `obey` promises those past
+// the lent ones too.
 #[derive(Clone, Copy)]
 pub struct Reply {
-    pub engine: Engine,
-    pub told: Told,
+    pub told: Result<(), Refusal>,
     pub tail: Tail,
     pub bytes: [u8; 512],
 }
 
-// 512 bytes x.
+// 512 bytes x. A function of its own, so that a proof above knows them by a name and doesn't compute them.
+#[tactic(auto, unfolding(crate::specs::Reply::filled_with))]
 fn filled(x: u8) -> [u8; 512]
     ensures { result ≡ filled_with x }
 {
@@ -26,185 +27,137 @@ fn filled(x: u8) -> [u8; 512]
 }
 
 // A reply of a call that was lent no bytes.
-fn plain(engine: Engine, told: Told, tail: Tail) -> Reply
-    ensures { result ≡ plain_of engine told tail }
+#[tactic(auto, unfolding(crate::specs::Reply::plain_reply))]
+fn plain(told: Result<(), Refusal>, tail: Tail) -> Reply
+    ensures { result ≡ plain_reply told tail }
 {
-    let bytes = filled(0);
     Reply {
-        engine,
         told,
         tail,
-        bytes,
+        bytes: filled(0),
     }
 }
 
-// A call that tells no more than whether it was accepted.
-fn quiet(out: Outcome) -> Reply
-    ensures { result ≡ quiet_of out }
+#[tactic(auto, unfolding(crate::specs::Reply::quiet_of, crate::specs::Reply::plain_of))]
+fn on_setup(engine: &mut Engine, text: &[u8]) -> Reply
+    ensures value { result ≡ (quiet_of (setup_of (setup_record_in text.now))).reply }
+    ensures after { engine.new ≡ (quiet_of (setup_of (setup_record_in text.now))).engine }
 {
-    let engine = out.engine;
-    let told = out.told;
-    plain(engine, told, Tail::Nothing)
-}
-
-fn on_setup(text: &[u8]) -> Reply
-    ensures { result ≡ quiet_of (setup_of (setup_record_in text.now)) }
-{
-    let rec = record_of(after(text, 32));
-    let bytes = rec.bytes;
-    let n = rec.length;
-    let out = Engine::setup(&bytes[..n]);
-    quiet(out)
+    let bytes = record_of(after(text, b' '));
+    let Outcome {
+        engine: fresh,
+        told,
+    } = Engine::setup(bytes.as_slice());
+    *engine = fresh;
+    plain(told, Tail::Nothing)
 }
 
 // The words from the fourth on.
 fn fourth_word(text: &[u8]) -> &[u8]
     ensures { result.now ≡ fourth_word text.now }
 {
-    after(after(after(text, 32), 32), 32)
+    after(after(after(text, b' '), b' '), b' ')
 }
 
-fn on_begin(engine: Engine, w: u32, lock: u32, text: &[u8]) -> Reply
-    ensures { result ≡ quiet_of (begin_of engine w lock (begin_record_in text.now)) }
+#[tactic(auto, unfolding(crate::specs::Reply::quiet_of, crate::specs::Reply::plain_of))]
+fn on_begin(engine: &mut Engine, w: u32, lock: u32, text: &[u8]) -> Reply
+    ensures value { result ≡ (quiet_of (begin_of engine.old w lock (begin_record_in text.now))).reply }
+    ensures after { engine.new ≡ (quiet_of (begin_of engine.old w lock (begin_record_in text.now))).engine }
 {
-    let rec = record_of(fourth_word(text));
-    let bytes = rec.bytes;
-    let n = rec.length;
-    let out = engine.begin(w, lock, &bytes[..n]);
-    quiet(out)
+    let bytes = record_of(fourth_word(text));
+    plain(engine.begin(w, lock, bytes.as_slice()), Tail::Nothing)
 }
 
 // Up to n steps of worker w, until one is refused.
-fn on_step(mut engine: Engine, w: u32, n: u32) -> Reply
-    ensures { result ≡ steps_from n engine w 0 }
+fn on_step(engine: &mut Engine, w: u32, n: u32) -> Reply
+    ensures value { result ≡ (steps_from n engine.old w 0).reply }
+    ensures after { engine.new ≡ (steps_from n engine.old w 0).engine }
 {
-    let mut done: u32 = 0;
-    while done < n {
-        let out = engine.step(w);
-        let told = out.told;
-        match told {
-            Told::Refused(r) => return plain(engine, Told::Refused(r), Tail::Steps(done)),
-            Told::Accepted => {
-                engine = out.engine;
-                done += 1;
-                continue;
-            }
+    for done in 0..n {
+        if let Err(r) = engine.step(w) {
+            return plain(Err(r), Tail::Steps(done));
         }
     }
-    plain(engine, Told::Accepted, Tail::Steps(done))
+    plain(Ok(()), Tail::Steps(n))
 }
 
-fn collected(told: CollectTold, engine: Engine) -> Reply
-    ensures { result ≡ script_collect told engine }
+#[tactic(auto, unfolding(crate::specs::Reply::script_collect, crate::specs::Reply::collect_reply))]
+fn on_collect(engine: &mut Engine, w: u32) -> Reply
+    ensures value { result ≡ (script_collect (collect_of engine.old w).told (collect_of engine.old w).engine).reply }
+    ensures after { engine.new ≡ (script_collect (collect_of engine.old w).told (collect_of engine.old w).engine).engine }
 {
-    match told {
-        CollectTold::Answered(answer, steps, filled) => {
-            let number = answer.number();
-            plain(engine, Told::Accepted, Tail::Answer(number, steps, filled))
-        }
-        CollectTold::Refused(r) => plain(engine, Told::Refused(r), Tail::Answer(0, 0, 0)),
+    match engine.collect(w) {
+        Ok(x) => plain(Ok(()), Tail::Answer(x.answer.number(), x.steps, x.filled)),
+        Err(r) => plain(Err(r), Tail::Answer(0, 0, 0)),
     }
 }
 
-fn on_collect(engine: Engine, w: u32) -> Reply
-    ensures { result ≡ script_collect (collect_of engine w).told (collect_of engine w).engine }
+#[tactic(auto, unfolding(crate::specs::Reply::quiet_of, crate::specs::Reply::plain_of))]
+fn on_drop(engine: &mut Engine, w: u32) -> Reply
+    ensures value { result ≡ (quiet_of (drop_of engine.old w)).reply }
+    ensures after { engine.new ≡ (quiet_of (drop_of engine.old w)).engine }
 {
-    let out = engine.collect(w);
-    let next = out.engine;
-    let told = out.told;
-    collected(told, next)
+    plain(engine.drop(w), Tail::Nothing)
 }
 
-fn on_drop(engine: Engine, w: u32) -> Reply
-    ensures { result ≡ quiet_of (drop_of engine w) }
+#[tactic(auto, unfolding(crate::specs::Reply::script_word, crate::specs::Reply::word_reply))]
+fn on_word(engine: &Engine, i: u32) -> Reply
+    ensures { result ≡ (script_word (read_word_of engine.now i) engine.now).reply }
 {
-    let out = engine.drop(w);
-    quiet(out)
-}
-
-fn word_read(told: WordTold, engine: Engine) -> Reply
-    ensures { result ≡ script_word told engine }
-{
-    match told {
-        WordTold::Is(w) => plain(
-            engine,
-            Told::Accepted,
-            Tail::Word(w.value, w.count, w.guard as u32),
-        ),
-        WordTold::Refused(r) => plain(engine, Told::Refused(r), Tail::Word(0, 0, 0)),
+    match engine.read_word(i) {
+        Ok(w) => plain(Ok(()), Tail::Word(w.value, w.count, u32::from(w.guard))),
+        Err(r) => plain(Err(r), Tail::Word(0, 0, 0)),
     }
 }
 
-fn on_word(engine: Engine, i: u32) -> Reply
-    ensures { result ≡ script_word (read_word_of engine i) engine }
+#[tactic(auto, unfolding(crate::specs::Reply::script_lock, crate::specs::Reply::lock_reply))]
+fn on_lock(engine: &Engine, l: u32) -> Reply
+    ensures { result ≡ (script_lock (read_lock_of engine.now l) engine.now).reply }
 {
-    let told = engine.read_word(i);
-    word_read(told, engine)
-}
-
-fn lock_read(told: LockTold, engine: Engine) -> Reply
-    ensures { result ≡ script_lock told engine }
-{
-    match told {
-        LockTold::Is(l) => {
-            let holder = l.holder;
-            plain(engine, Told::Accepted, Tail::Lock(l.turn, holder))
-        }
-        LockTold::Refused(r) => plain(engine, Told::Refused(r), Tail::Lock(0, Holder::Free)),
+    match engine.read_lock(l) {
+        Ok(l) => plain(Ok(()), Tail::Lock(l.turn, l.holder)),
+        Err(r) => plain(Err(r), Tail::Lock(0, None)),
     }
-}
-
-fn on_lock(engine: Engine, l: u32) -> Reply
-    ensures { result ≡ script_lock (read_lock_of engine l) engine }
-{
-    let told = engine.read_lock(l);
-    lock_read(told, engine)
 }
 
 // What a writer told that was lent n bytes, the first of these.
-fn written(told: WriteTold, engine: Engine, n: u32, bytes: [u8; 512]) -> Reply
-    ensures { result ≡ script_write told engine n bytes }
+#[tactic(auto, unfolding(crate::specs::Reply::write_reply))]
+fn written(told: Result<usize, Refusal>, n: u32, bytes: [u8; 512]) -> Reply
+    ensures { result ≡ write_reply told n bytes }
 {
-    match told {
-        WriteTold::Wrote(k) => Reply {
-            engine,
-            told: Told::Accepted,
-            tail: Tail::Bytes(k, n),
-            bytes,
-        },
-        WriteTold::Refused(r) => Reply {
-            engine,
-            told: Told::Refused(r),
-            tail: Tail::Bytes(0, n),
-            bytes,
-        },
+    Reply {
+        told: told.map(|_| ()),
+        tail: Tail::Bytes(told.unwrap_or(0), n),
+        bytes,
     }
 }
 
-fn on_show(engine: Engine, sheet: u32, n: u32) -> Reply
-    ensures { result ≡ script_show engine sheet n }
+#[tactic(auto, using(crate::proofs::Replies::shown_by))]
+fn on_show(engine: &Engine, sheet: u32, n: u32) -> Reply
+    ensures { result ≡ (script_show engine.now sheet n).reply }
 {
-    let k = lent(n);
     let mut bytes = filled(165);
-    let told = engine.show(sheet, &mut bytes[..k]);
-    written(told, engine, n, bytes)
+    let told = engine.show(sheet, &mut bytes[..lent(n)]);
+    written(told, n, bytes)
 }
 
-fn on_park(engine: Engine, n: u32) -> Reply
-    ensures { result ≡ script_park engine n }
+#[tactic(auto, using(crate::proofs::Replies::parked_by))]
+fn on_park(engine: &Engine, n: u32) -> Reply
+    ensures { result ≡ (script_park engine.now n).reply }
 {
-    let k = lent(n);
     let mut bytes = filled(165);
-    let told = engine.park(&mut bytes[..k]);
-    written(told, engine, n, bytes)
+    let told = engine.park(&mut bytes[..lent(n)]);
+    written(told, n, bytes)
 }
 
 // The call of the line with these bytes.
-pub fn obey(call: Call, engine: Engine, text: &[u8]) -> Reply
-    ensures { result ≡ reply_of call engine text.now }
+#[tactic(auto, unfolding(crate::specs::Reply::reply_of, crate::specs::Reply::script_word, crate::specs::Reply::script_lock, crate::specs::Reply::script_show, crate::specs::Reply::script_park, crate::specs::Reply::script_write))]
+pub fn obey(call: Call, engine: &mut Engine, text: &[u8]) -> Reply
+    ensures value { result ≡ (reply_of call engine.old text.now).reply }
+    ensures after { engine.new ≡ (reply_of call engine.old text.now).engine }
 {
     match call {
-        Call::Setup => on_setup(text),
+        Call::Setup => on_setup(engine, text),
         Call::Begin(w, l) => on_begin(engine, w, l, text),
         Call::Step(w, n) => on_step(engine, w, n),
         Call::Collect(w) => on_collect(engine, w),

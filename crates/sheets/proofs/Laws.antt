@@ -1,21 +1,25 @@
 -- What the marks say of a sheet, and what a turn of each loop does.
-use Prim.Native.Nat.{ℕ, zero, suc, ◌+◌, ◌-◌, ◌*◌, ◌/◌, ◌%◌, ◌^◌, ◌≤◌, ◌<◌}
-use mathlib.Core.Path.{◌≡◌, refl, ◌∙◌, sym, ap}
+use Rattle.std.specs.Prelude.{None, Some}
+use Prim.Native.Nat.{ℕ, zero, suc, ◌+◌, ◌*◌, ◌/◌, ◌%◌, ◌^◌, ◌≤◌, ◌<◌, min}
+use mathlib.Core.Path.{◌≡◌, refl, ◌∙◌, sym, ap, subst}
 use mathlib.Core.Bool.{Bool, true, false}
 use mathlib.Core.List.{List, [], ◌∷◌}
 use mathlib.Core.Logic.{⊎_elim}
-use native.Mathlib.Nat.{one-mul, zero-div, div-eq_of_lt, mul-mod_left, mod-lt, pow-suc, eq-or-lt_of_le}
+use native.Mathlib.Nat.{one-mul, zero-div, eq-or-lt_of_le}
 use native.Mathlib.Numerals.{add-one}
 use native.Mathlib.Omega.{arith}
-use lib.Bits.{bit_and, bit_or, or_shr, or_mod, or_zero_r, and_mask}
+use lib.Bits.{bit_and, bit_or, and_mask}
+use Rattle.std.specs.Int.{w32, bit_at, trailing_ones}
+use Rattle.std.specs.List.{fold}
+use Rattle.std.proofs.lemmas.Nat.Bits.{bit_at-lt, bit_at_or, bit_at-pow_same, bit_at-pow_other, bit_at-trailing_ones}
+use lib.Count.{count_trailing_zeros}
 use lib.Dec.{eqb, ltb}
 use lib.ListN.{length, get_or, drop, drop_of_length-le}
-use lib.Pow.{pow-lt, pow-add, shl-shr, shl_exact}
+use lib.Pow.{shl_exact}
 use lib.Seq.{drop-cons}
-use borrow.Author.Tests.{eqb-true, eqb-false, ltb-true, ltb-false, lt-ltb}
+use borrow.Author.Tests.{eqb-true, eqb-false, eq-eqb, lt-ltb}
 use Rattle.parts.specs.Numbers.{sheets}
 use Rattle.parts.specs.Pick.{pick, ◌or◌}
-use Rattle.parts.specs.declared.Holder.TheVariants.{Free, By}
 use Rattle.parts.specs.declared.LockWord.{LockWord}
 use Rattle.steps.specs.Places.{names, helped_of}
 use Rattle.steps.specs.Worker.{on_state}
@@ -47,26 +51,17 @@ lowest_same used marked at zero h = refl
 lowest_same used marked at (suc n) h =
     simp (h at (omega arith), lowest_same used marked (at + 1) n (λ j l. h j (omega arith)))
 
--- of the numbers from i on there is one at least; there is none
-lowest_one :
-    (used : ℕ → Bool) (i m k : ℕ) → m ≡ suc k → lowest_of used i m ≡ pick (used i) (lowest_of used (i + 1) k) i
+-- the first that is not used is the lowest, or the number after them
+lowest_found :
+    (used : ℕ → Bool) (at n k : ℕ) → at ≤ k → k ≤ at + n → ((j : ℕ) → j < k → used j ≡ true) →
+    (k < at + n → used k ≡ false) → k ≡ lowest_of used at n
 unfolding lowest_of
-lowest_one used i m k e = simp e
-
-lowest_none : (used : ℕ → Bool) (i m : ℕ) → m ≡ 0 → lowest_of used i m ≡ i
-unfolding lowest_of
-lowest_none used i m e = simp e
-
--- a loop that has passed the numbers below i, all used: it passes i; it finds i; it is past them all
-module _ (used : ℕ → Bool) (goal i n : ℕ) (g : goal ≡ lowest_of used i (n - i)) where
-  pub lowest_turn : i < n → used i ≡ true → goal ≡ lowest_of used (i + 1) (n - (i + 1))
-  lowest_turn h u = g ∙ lowest_one used i (n - i) (n - (i + 1)) (omega arith) ∙ simp u
-
-  pub lowest_here : i < n → used i ≡ false → i ≡ goal
-  lowest_here h u = sym (g ∙ lowest_one used i (n - i) (n - (i + 1)) (omega arith) ∙ simp u)
-
-  pub lowest_end : n ≤ i → i ≡ goal
-  lowest_end h = sym (g ∙ lowest_none used i (n - i) (omega arith))
+lowest_found used at zero k l h a b = omega arith
+lowest_found used at (suc n) k l h a b =
+    ⊎_elim here (λ q. simp (a at q) (lowest_found used (at + 1) n k (omega arith) (omega arith) a (λ r. b (omega arith)))) (eq-or-lt_of_le l)
+  where
+    here : at ≡ k → k ≡ lowest_of used at (suc n)
+    here e = let f : used at ≡ false = rw e (b (omega arith)) in simp f (sym e)
 
 -- a loop over elements that mark their sheets, at the element j; and at its end
 pub all_turn :
@@ -82,40 +77,6 @@ pub all_end :
     goal ≡ all_mark mark marks (drop j xs) → length xs ≤ j → marks ≡ goal
 unfolding all_mark
 all_end mark goal marks xs j g h = sym (g ∙ ap (all_mark mark marks) (drop_of_length-le xs h))
-
--- digit s of 2 ^ t: 1 where s is t, and else 0
-digit_same : (s : ℕ) → 2 ^ s / 2 ^ s % 2 ≡ 1
-digit_same s = ap (λ (x : ℕ). x % 2) (ap (λ (x : ℕ). x / 2 ^ s) (sym (one-mul (2 ^ s))) ∙ shl-shr 1 s)
-
-digit_below : (s t : ℕ) → t < s → 2 ^ t / 2 ^ s % 2 ≡ 0
-digit_below s t h = ap (λ (x : ℕ). x % 2) (div-eq_of_lt (pow-lt h))
-
-digit_above : (s d : ℕ) → 2 ^ (suc d + s) / 2 ^ s % 2 ≡ 0
-digit_above s d =
-    ap (λ (x : ℕ). x / 2 ^ s % 2) (pow-add 2 (suc d) s) ∙ ap (λ (x : ℕ). x % 2) (shl-shr (2 ^ suc d) s) ∙
-    ap (λ (x : ℕ). x % 2) (pow-suc 2 d) ∙ mul-mod_left (2 ^ d) 2
-
-digit_other : (s t : ℕ) → (t ≡ s → ⊥) → 2 ^ t / 2 ^ s % 2 ≡ 0
-digit_other s t n = go (ltb t s) refl
-  where
-    above : s ≤ t → s < t
-    above h = ⊎_elim (λ q. absurd (n (sym q))) (λ q. q) (eq-or-lt_of_le h)
-
-    go : (b : Bool) → ltb t s ≡ b → 2 ^ t / 2 ^ s % 2 ≡ 0
-    go true e = digit_below s t (ltb-true t s e)
-    go false e =
-        let q : t ≡ suc (t - s - 1) + s = omega (arith, above (ltb-false t s e)) in
-        ap (λ (k : ℕ). 2 ^ k / 2 ^ s % 2) q ∙ digit_above s (t - s - 1)
-
--- one digit, or-ed with 1 and with 0
-or_one : (x : ℕ) → x < 2 → bit_or x 1 ≡ 1
-or_one zero h = refl
-or_one (suc zero) h = refl
-or_one (suc (suc x)) h = absurd (omega arith)
-
--- digit s of a number or-ed with another
-digit_or : (m n s : ℕ) → bit_or m n / 2 ^ s % 2 ≡ bit_or (m / 2 ^ s % 2) (n / 2 ^ s % 2)
-digit_or m n s = ap (λ (x : ℕ). x % 2) (or_shr m n s) ∙ or_mod (m / 2 ^ s) (n / 2 ^ s) 1
 
 -- `marks | (1 << s)` and `(marks >> s) & 1 == 1`, as the machine has them
 pub shifted : (s : ℕ) → s < sheets → 1 * 2 ^ s % 2 ^ 32 ≡ 2 ^ s
@@ -133,20 +94,42 @@ sheet_marks_lem : Marks sheet_marks (λ s t. eqb t s)
 unfolding sheet_marks marked_of
 sheet_marks_lem marks t s h = go (eqb t s) refl
   where
-    same : eqb (bit_or (marks / 2 ^ s % 2) (2 ^ s / 2 ^ s % 2)) 1 ≡ true
-    same = rw (digit_same s, or_one (marks / 2 ^ s % 2) (mod-lt (marks / 2 ^ s) (omega arith)))
-
     other : (b : Bool) → (t ≡ s → ⊥) → marked_of (pick b (bit_or marks (2 ^ t)) marks) s ≡ marked_of marks s
     other true n =
-        ap (λ (x : ℕ). eqb x 1) (digit_or marks (2 ^ t) s ∙ ap (bit_or (marks / 2 ^ s % 2)) (digit_other s t n) ∙ or_zero_r (marks / 2 ^ s % 2))
+        let d : bit_at (bit_or marks (2 ^ t)) s ≡ bit_at marks s =
+        bit_at_or marks (2 ^ t) s ∙ omega (arith, bit_at-pow_other t s (λ e. n (sym e))) in
+        ap (λ (x : ℕ). eqb x 1) d
     other false n = refl
 
     go : (b : Bool) → eqb t s ≡ b → marked_of (sheet_marks marks t) s ≡ (marked_of marks s or b)
     go true e =
+        let l = bit_at-lt marks s in
+        let d : bit_at (bit_or marks (2 ^ s)) s ≡ 1 = bit_at_or marks (2 ^ s) s ∙ omega (arith, bit_at-pow_same s) in
         ap (λ (k : ℕ). marked_of (sheet_marks marks k) s) (eqb-true t s e) ∙
         ap (λ (b : Bool). marked_of (pick b (bit_or marks (2 ^ s)) marks) s) (lt-ltb s sheets h) ∙
-        ap (λ (x : ℕ). eqb x 1) (digit_or marks (2 ^ s) s) ∙ same ∙ sym (or_true (marked_of marks s))
+        ap (λ (x : ℕ). eqb x 1) d ∙ sym (or_true (marked_of marks s))
     go false e = other (ltb t sheets) (eqb-false t s e) ∙ sym (or_none (marked_of marks s))
+
+-- the marks' lowest digits that are 1, at most all but the last sheet's
+pub lowest_lem : (marks : ℕ) → marks < 2 ^ 32 → min (trailing_ones w32 marks) 31 ≡ lowest_of (marked_of marks) 0 31
+unfolding lowest_of marked_of count_trailing_zeros
+lowest_lem marks h = ⊎_elim all some (eq-or-lt_of_le (omega arith))
+  where
+    all : suc marks ≡ 2 ^ 32 → min (trailing_ones w32 marks) 31 ≡ lowest_of (marked_of marks) 0 31
+    all e = let q : marks ≡ 4294967295 = omega arith in
+        subst (λ (m : ℕ). min (trailing_ones w32 m) 31 ≡ lowest_of (marked_of m) 0 31) (sym q) refl
+
+    some : suc marks < 2 ^ 32 → min (trailing_ones w32 marks) 31 ≡ lowest_of (marked_of marks) 0 31
+    some q =
+        let t = bit_at-trailing_ones w32 marks (omega arith) in
+        lowest_found (marked_of marks) 0 31 _ (omega arith) (omega arith)
+        (λ j l. eq-eqb _ _ (t.2 j (omega arith))) (λ l. let e : min (trailing_ones w32 marks) 31 ≡ trailing_ones w32 marks = omega arith in simp (e, t.1))
+
+-- one after the other marks its sheets
+pub all_folds : {A : Type 0} (mark : ℕ → A → ℕ) (marks : ℕ) (xs : List A) → fold mark marks xs ≡ all_mark mark marks xs
+unfolding all_mark
+all_folds mark marks [] = refl
+all_folds mark marks (x ∷ xs) = all_folds mark (mark marks x) xs
 
 -- any number of elements mark the sheets that some of them has
 pub all_marks :
@@ -160,8 +143,8 @@ all_marks mark has one marks (x ∷ xs) s h =
 -- each way to mark, with what it marks
 holder_marks_lem : Marks holder_marks (λ s h. names h s)
 unfolding holder_marks
-holder_marks_lem marks Free s h = sym (or_none (marked_of marks s))
-holder_marks_lem marks (By t) s h = sheet_marks_lem marks t s h
+holder_marks_lem marks None s h = sym (or_none (marked_of marks s))
+holder_marks_lem marks (Some t) s h = sheet_marks_lem marks t s h
 
 lock_marks_lem : Marks lock_marks lock_names
 unfolding lock_marks

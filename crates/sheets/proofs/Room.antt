@@ -1,5 +1,6 @@
 -- How many sheets are in use: a held lock names one, a worker under way keeps two at most, any other none. So with
 -- enough sheets one is free while a worker is idle. It is counted over any numbers of locks, workers and sheets.
+use Rattle.std.specs.Prelude.{None, Option, Some}
 use Prim.Native.Nat.{ℕ, zero, suc, ◌+◌, ◌*◌, ◌-◌, ◌≤◌, ◌<◌}
 use native.Mathlib.Nat.{mul-suc}
 use native.Mathlib.Omega.{arith}
@@ -12,8 +13,6 @@ use lib.ListN.{length, get_or, length-append}
 use borrow.Author.Tests.{eqb-true, eqb-false, ltb-true, ltb-false, lt-ltb, le-ltb}
 use Rattle.parts.specs.Numbers.{sheets}
 use Rattle.parts.specs.Pick.{pick, ◌or◌}
-use Rattle.parts.specs.declared.Holder.{Holder}
-use Rattle.parts.specs.declared.Holder.TheVariants.{Free, By}
 use Rattle.parts.specs.declared.LockWord.{LockWord}
 use Rattle.parts.proofs.Order.{below_or_not}
 use Rattle.steps.specs.Places.{helped_of, names, keeps}
@@ -129,22 +128,22 @@ gather_but n f (x ∷ xs) d (suc k) most h e =
     (arith, most x, gather_but n f xs d k most (omega arith) e, length-append (f x) (gather f xs), mul-suc n (length xs))
 
 -- the sheets that a holder names, and that a worker keeps in use
-named_by : Holder → List ℕ
-named_by Free = []
-named_by (By s) = s ∷ []
+named_by : Option ℕ → List ℕ
+named_by None = []
+named_by (Some s) = s ∷ []
 
 kept_by : Worker → List ℕ
 kept_by k = on_state k.state [] (λ p. k.own ∷ named_by (helped_of p)) (λ x. [])
 
-named_is : (s : ℕ) (h : Holder) → any_of (λ x. eqb x s) (named_by h) ≡ names h s
+named_is : (s : ℕ) (h : Option ℕ) → any_of (λ x. eqb x s) (named_by h) ≡ names h s
 unfolding named_by any_of
-named_is s Free = refl
-named_is s (By t) = or_none (eqb t s)
+named_is s None = refl
+named_is s (Some t) = or_none (eqb t s)
 
-named_most : (h : Holder) → length (named_by h) ≤ 1
+named_most : (h : Option ℕ) → length (named_by h) ≤ 1
 unfolding named_by
-named_most Free = omega arith
-named_most (By s) = omega arith
+named_most None = omega arith
+named_most (Some s) = omega arith
 
 kept_is : (s : ℕ) (k : Worker) → any_of (λ x. eqb x s) (kept_by k) ≡ keeps k s
 unfolding kept_by any_of

@@ -1,7 +1,7 @@
 -- Which sheet a worker's step can touch, where on it, and which sheets a worker under way keeps in use.
 mod Names
 use Names.*
-use Rattle.parts.specs.Pick.{◌or◌, on_holder}
+use Rattle.parts.specs.Pick.{◌or◌, on_option}
 use Rattle.steps.specs.Worker.{on_state}
 
 abbrev pub run_spot : Run → Spot
@@ -20,16 +20,16 @@ spot_of (Point.Run r at) own = run_spot r
 
 -- the sheet that is helped at a point, or run. "If another sheet holds it, that sheet counts as helped from now" (3); "run the
 -- own sheet, and a sheet seen at 3 no longer counts as helped" (4)
-unfoldable pub helped_of : Point → Holder
-helped_of Look = Free
-helped_of (Grab seen) = Free
-helped_of (LookAgain won) = Free
+unfoldable pub helped_of : Point → Option ℕ
+helped_of Look = None
+helped_of (Grab seen) = None
+helped_of (LookAgain won) = None
 helped_of (ReadMark seen won) = seen.holder
-helped_of (Point.Run r at) = By r.sheet
+helped_of (Point.Run r at) = Some r.sheet
 
 -- it is sheet s that is named
-abbrev pub names : Holder → ℕ → Bool
-names h s = on_holder h false (λ t. eqb t s)
+abbrev pub names : Option ℕ → ℕ → Bool
+names h s = on_option h false (λ t. eqb t s)
 
 -- "a worker under way has it as its own or as the one it helps"
 abbrev pub keeps : Worker → ℕ → Bool

@@ -4,7 +4,7 @@ use Names.*
 use Rattle.parts.specs.Instr.{asks_of, follows_of, on_asks, on_follows}
 use Rattle.parts.specs.Numbers.{last_turn}
 use Rattle.parts.specs.Parts.{next32, registers0, reading_of, swap_of, committed_of, holds_of, is_first, grab_of, release_of}
-use Rattle.parts.specs.Pick.{pick, on_holder}
+use Rattle.parts.specs.Pick.{pick, on_option}
 use Rattle.steps.specs.Worker.{moved_of, counted_of}
 
 -- the pieces with one of them changed
@@ -70,7 +70,7 @@ logged_of r =
 -- go to 2." Request 03, in place of this "not taken": "Answer 4, worn, is given exactly when Look finds the lock free at the last turn."
 unfoldable pub look_step : View → View
 look_step v =
-    on_holder v.lock.holder
+    on_option v.lock.holder
     (pick (eqb v.lock.turn last_turn) (to_of v (Finished Worn)) (at_of v (Grab v.lock.turn)))
     (λ s. at_of v (Point.Run (start_of s v.lock.turn) Read))
 
@@ -88,7 +88,7 @@ look_again_step v won = at_of v (ReadMark v.lock won)
 unfoldable pub read_mark_step : View → LockWord → ℕ → View
 read_mark_step v seen won =
     pick v.done (at_of v (Point.Run (start_of v.worker.own won) Read))
-    (on_holder seen.holder (to_of v (Finished NotTaken))
+    (on_option seen.holder (to_of v (Finished NotTaken))
     (λ s.
     pick (eqb s v.worker.own) (at_of v (Point.Run (start_of v.worker.own won) Read))
     (at_of v (Point.Run (start_of s seen.turn) Read))))

@@ -33,16 +33,16 @@ dropped_of k = on_state k.state k (λ p. worker0) (λ x. worker0)
 -- The refusals that go by the worker's state. 3: "begin or collect: worker under way"; 4: "begin or step: answer not collected";
 -- 11: "step, collect or drop: worker idle"
 unfoldable pub begin_by_state : Worker → Told
-begin_by_state k = on_state k.state Accepted (λ p. Refused WorkerUnderWay) (λ x. Refused NotCollected)
+begin_by_state k = on_state k.state (Ok tt) (λ p. Err WorkerUnderWay) (λ x. Err NotCollected)
 
 unfoldable pub step_by_state : Worker → Told
-step_by_state k = on_state k.state (Refused WorkerIdle) (λ p. Accepted) (λ x. Refused NotCollected)
+step_by_state k = on_state k.state (Err WorkerIdle) (λ p. Ok tt) (λ x. Err NotCollected)
 
 unfoldable pub collect_by_state : Worker → Told
-collect_by_state k = on_state k.state (Refused WorkerIdle) (λ p. Refused WorkerUnderWay) (λ x. Accepted)
+collect_by_state k = on_state k.state (Err WorkerIdle) (λ p. Err WorkerUnderWay) (λ x. Ok tt)
 
 unfoldable pub drop_by_state : Worker → Told
-drop_by_state k = on_state k.state (Refused WorkerIdle) (λ p. Accepted) (λ x. Accepted)
+drop_by_state k = on_state k.state (Err WorkerIdle) (λ p. Ok tt) (λ x. Ok tt)
 
 -- one accepted step more, and the state that it leads to
 abbrev pub moved_of : Worker → State → Worker

@@ -8,7 +8,7 @@ ghost use Rattle.steps.specs.Worker.{worker0, began_of, collected_of, dropped_of
 
 pub mod trying;
 
-use parts::{Answer, Entry, Holder, Instr, LockWord, Reading, Refusal, Registers, Told, Word};
+use parts::{Answer, Entry, Instr, LockWord, Reading, Refusal, Registers, Word};
 
 // A run of a sheet: the turn under which it won its lock, the next instruction, the log place, the registers.
 #[derive(Clone, Copy)]
@@ -98,80 +98,74 @@ impl Worker {
     }
 
     // An idle worker is at the start of a try. Any other stays: it can't begin again until its answer is collected or it is dropped.
+    #[tactic(auto, unfolding(crate::specs::Worker::began_of))]
     pub fn begin(self, lock: u8, sheet: u8) -> Worker
         ensures { result ≡ began_of self lock sheet }
     {
-        let s = self.state;
-        match s {
+        match self.state {
             State::Idle => Worker {
                 state: State::UnderWay(Point::Look),
-                lock: lock,
+                lock,
                 own: sheet,
                 steps: 0,
                 filled: 0,
             },
-            State::UnderWay(_) => self,
-            State::Finished(_) => self,
+            State::UnderWay(_) | State::Finished(_) => self,
         }
     }
 
     // A finished worker is idle again. Any other stays.
+    #[tactic(auto, unfolding(crate::specs::Worker::collected_of))]
     pub fn collect(self) -> Worker
         ensures { result ≡ collected_of self }
     {
-        let s = self.state;
-        match s {
-            State::Idle => self,
-            State::UnderWay(_) => self,
+        match self.state {
+            State::Idle | State::UnderWay(_) => self,
             State::Finished(_) => Worker::idle(),
         }
     }
 
     // A worker that isn't idle is idle, at whatever point it was.
+    #[tactic(auto, unfolding(crate::specs::Worker::dropped_of))]
     pub fn drop(self) -> Worker
         ensures { result ≡ dropped_of self }
     {
-        let s = self.state;
-        match s {
+        match self.state {
             State::Idle => self,
-            State::UnderWay(_) => Worker::idle(),
-            State::Finished(_) => Worker::idle(),
+            State::UnderWay(_) | State::Finished(_) => Worker::idle(),
         }
     }
 
-    pub fn begin_told(self) -> Told
+    #[tactic(auto, unfolding(crate::specs::Worker::begin_by_state))]
+    pub fn begin_told(self) -> Result<(), Refusal>
         ensures { result ≡ begin_by_state self }
     {
-        let s = self.state;
-        match s {
-            State::Idle => Told::Accepted,
-            State::UnderWay(_) => Told::Refused(Refusal::WorkerUnderWay),
-            State::Finished(_) => Told::Refused(Refusal::NotCollected),
+        match self.state {
+            State::Idle => Ok(()),
+            State::UnderWay(_) => Err(Refusal::WorkerUnderWay),
+            State::Finished(_) => Err(Refusal::NotCollected),
         }
     }
 
     // The worker after a step that leaves it in this state: one step more.
+    #[tactic(auto, unfolding(crate::specs::Worker::moved_of))]
     pub fn moved(self, s: State) -> Worker
         ensures { result ≡ moved_of self s }
     {
-        let n = std::num::wrapping_add_u32(self.steps, 1);
         Worker {
             state: s,
-            lock: self.lock,
-            own: self.own,
-            steps: n,
-            filled: self.filled,
+            steps: self.steps.wrapping_add(1),
+            ..self
         }
     }
 
     // The worker after a commit that says whether it was the first: one entry more that this worker filled, or not.
+    #[tactic(auto, unfolding(crate::specs::Worker::counted_of))]
     pub fn counted(mut self, first: bool) -> Worker
         ensures { result ≡ counted_of self first }
     {
         if first {
-            let n = std::num::wrapping_add_u32(self.filled, 1);
-            self.filled = n;
-            return self;
+            self.filled = self.filled.wrapping_add(1);
         }
         self
     }
@@ -191,33 +185,29 @@ impl Run {
 
 impl Point {
     // A run's spot is the run's; before it, the worker's own sheet.
+    #[tactic(auto, unfolding(crate::specs::Places::spot_of))]
     pub fn spot(self, own: u8) -> Spot
         ensures { result ≡ spot_of self own }
     {
-        let start = Spot {
-            sheet: own,
-            next: 0,
-            place: 0,
-        };
         match self {
-            Point::Look => start,
-            Point::Grab(_) => start,
-            Point::LookAgain(_) => start,
-            Point::ReadMark(_, _) => start,
+            Point::Look | Point::Grab(_) | Point::LookAgain(_) | Point::ReadMark(_, _) => Spot {
+                sheet: own,
+                next: 0,
+                place: 0,
+            },
             Point::Run(run, _) => run.spot(),
         }
     }
 
     // The sheet that is helped at this point, or run: the one that Look or Look again saw.
-    pub fn helped(self) -> Holder
+    #[tactic(auto, unfolding(crate::specs::Places::helped_of))]
+    pub fn helped(self) -> Option<u8>
         ensures { result ≡ helped_of self }
     {
         match self {
-            Point::Look => Holder::Free,
-            Point::Grab(_) => Holder::Free,
-            Point::LookAgain(_) => Holder::Free,
+            Point::Look | Point::Grab(_) | Point::LookAgain(_) => None,
             Point::ReadMark(seen, _) => seen.holder,
-            Point::Run(run, _) => Holder::By(run.sheet),
+            Point::Run(run, _) => Some(run.sheet),
         }
     }
 }

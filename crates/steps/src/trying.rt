@@ -3,7 +3,7 @@ ghost use Rattle.std.specs.Prelude.{◌≡◌};
 ghost use Rattle.steps.specs.Try.{start_of, onto_of, logged_of, to_of, at_of, look_step, grab_step, look_again_step, read_mark_step, read_step, follow_step, commit_step, swap_step, mark_step, release_step, answer_of, run_step, effect_of};
 
 use crate::{Point, Run, Stage, State, View};
-use parts::{Answer, Asks, Follows, Holder, LAST_TURN, LockWord, Reading, Registers};
+use parts::{Answer, Asks, Follows, LAST_TURN, LockWord, Reading, Registers};
 
 impl Run {
     // From instruction 0 with registers 0 and log place 0.
@@ -11,8 +11,8 @@ impl Run {
         ensures { result ≡ start_of sheet won }
     {
         Run {
-            sheet: sheet,
-            won: won,
+            sheet,
+            won,
             next: 0,
             place: 0,
             registers: Registers {
@@ -28,8 +28,7 @@ impl Run {
     pub fn onto(mut self, over: u8, registers: Registers) -> Run
         ensures { result ≡ onto_of self over registers }
     {
-        let at = self.next;
-        self.next = (((at as u32) + 1 + (over as u32)) % 256) as u8;
+        self.next = self.next.wrapping_add(1).wrapping_add(over);
         self.registers = registers;
         self
     }
@@ -38,23 +37,20 @@ impl Run {
     pub fn logged(mut self) -> Run
         ensures { result ≡ logged_of self }
     {
-        let next = std::num::wrapping_add_u8(self.place, 1);
-        self.place = next;
+        self.place = self.place.wrapping_add(1);
         self
     }
 }
 
 // What the end of a run tells its worker.
+#[tactic(auto, unfolding(crate::specs::Try::answer_of))]
 pub fn answer(run: Run, own: u8, said: bool) -> Answer
     ensures { result ≡ answer_of run own said }
 {
-    if run.sheet == own {
-        if said {
-            return Answer::RanYes;
-        }
-        return Answer::RanNo;
+    if run.sheet != own {
+        return Answer::NotTaken;
     }
-    Answer::NotTaken
+    if said { Answer::RanYes } else { Answer::RanNo }
 }
 
 impl View {
@@ -62,9 +58,7 @@ impl View {
     pub fn to(mut self, s: State) -> View
         ensures { result ≡ to_of self s }
     {
-        let k = self.worker;
-        let next = k.moved(s);
-        self.worker = next;
+        self.worker = self.worker.moved(s);
         self
     }
 
@@ -76,120 +70,98 @@ impl View {
     }
 
     // 1. Held: help that sheet. Free at the last turn: finish, worn. Free otherwise: grab.
+    #[tactic(auto, unfolding(crate::specs::Try::look_step))]
     pub fn look(self) -> View
         ensures { result ≡ look_step self }
     {
-        let l = self.lock;
-        let h = l.holder;
-        match h {
-            Holder::By(s) => self.at(Point::Run(Run::start(s, l.turn), Stage::Read)),
-            Holder::Free => {
-                if l.turn == LAST_TURN {
-                    return self.to(State::Finished(Answer::Worn));
-                }
-                self.at(Point::Grab(l.turn))
-            }
+        let LockWord { turn, holder } = self.lock;
+        match holder {
+            Some(s) => self.at(Point::Run(Run::start(s, turn), Stage::Read)),
+            None if turn == LAST_TURN => self.to(State::Finished(Answer::Worn)),
+            None => self.at(Point::Grab(turn)),
         }
     }
 
     // 2. The lock word becomes the own sheet's if it is still what Look saw.
+    #[tactic(auto, unfolding(crate::specs::Try::grab_step))]
     pub fn grab(mut self, seen: u32) -> View
         ensures { result ≡ grab_step self seen }
     {
-        let l = self.lock;
-        let k = self.worker;
-        let next = l.grab(seen, k.own);
-        self.lock = next;
-        let won = std::num::wrapping_add_u32(seen, 1);
-        self.at(Point::LookAgain(won))
+        self.lock = self.lock.grab(seen, self.worker.own);
+        self.at(Point::LookAgain(seen.wrapping_add(1)))
     }
 
     // 3. Remember the lock word.
+    #[tactic(auto, unfolding(crate::specs::Try::look_again_step))]
     pub fn look_again(self, won: u32) -> View
         ensures { result ≡ look_again_step self won }
     {
-        let l = self.lock;
-        self.at(Point::ReadMark(l, won))
+        self.at(Point::ReadMark(self.lock, won))
     }
 
     // 4. Marked, or the own sheet was seen: run it. Another sheet was seen: help it. Else finish, not taken.
+    #[tactic(auto, unfolding(crate::specs::Try::read_mark_step))]
     pub fn read_mark(self, seen: LockWord, won: u32) -> View
         ensures { result ≡ read_mark_step self seen won }
     {
-        let k = self.worker;
-        let own = k.own;
-        if self.done {
+        let own = self.worker.own;
+        if self.done || seen.holder == Some(own) {
             return self.at(Point::Run(Run::start(own, won), Stage::Read));
         }
-        let h = seen.holder;
-        match h {
-            Holder::Free => self.to(State::Finished(Answer::NotTaken)),
-            Holder::By(s) => {
-                if s == own {
-                    return self.at(Point::Run(Run::start(own, won), Stage::Read));
-                }
-                self.at(Point::Run(Run::start(s, seen.turn), Stage::Read))
-            }
+        match seen.holder {
+            None => self.to(State::Finished(Answer::NotTaken)),
+            Some(s) => self.at(Point::Run(Run::start(s, seen.turn), Stage::Read)),
         }
     }
 
     // 5, the first step of an instruction: set, add, sub, skip and halt are done with it; load, store and cam read the word.
+    #[tactic(auto, unfolding(crate::specs::Try::read_step))]
     pub fn read(self, run: Run) -> View
         ensures { result ≡ read_step self run }
     {
-        let i = self.instr;
-        let asks = i.asks(run.registers);
-        match asks {
+        match self.instr.asks(run.registers) {
             Asks::Halt(said) => self.at(Point::Run(run, Stage::Mark(said))),
             Asks::Go(registers, over) => self.at(Point::Run(
                 run.onto(over, registers),
                 Stage::Read,
             )),
-            Asks::Touch(_) => {
-                let w = self.word;
-                self.at(Point::Run(run, Stage::Commit(w.reading())))
-            }
+            Asks::Touch(_) => self.at(Point::Run(run, Stage::Commit(self.word.reading()))),
         }
     }
 
     // What follows once the value of an instruction's word is committed: the next instruction, or the swap.
+    #[tactic(auto, unfolding(crate::specs::Try::follow_step))]
     pub fn follow(self, run: Run, held: Reading) -> View
         ensures { result ≡ follow_step self run held }
     {
-        let i = self.instr;
-        let follows = i.follows(run.registers, held.value);
-        match follows {
+        match self.instr.follows(run.registers, held.value) {
             Follows::Done(registers) => self.at(Point::Run(run.onto(0, registers), Stage::Read)),
             Follows::Swap(new) => self.at(Point::Run(run, Stage::Swap(held, new))),
         }
     }
 
     // 5, commit: the worker goes on with what the entry holds, and the place rises by one. It counts the entry if it filled it.
+    #[tactic(auto, unfolding(crate::specs::Try::commit_step))]
     pub fn commit(mut self, run: Run, read: Reading) -> View
         ensures { result ≡ commit_step self run read }
     {
-        let e = self.entry;
-        let k = self.worker;
-        let held = e.holds(read);
-        let next = e.commit(read);
-        let first = e.is_first();
-        let counted = k.counted(first);
-        self.entry = next;
-        self.worker = counted;
-        self.follow(run.logged(), held)
+        let found = self.entry;
+        self.entry = found.commit(read);
+        self.worker = self.worker.counted(found.is_first());
+        self.follow(run.logged(), found.holds(read))
     }
 
     // 5, swap.
+    #[tactic(auto, unfolding(crate::specs::Try::swap_step))]
     pub fn swap(mut self, run: Run, entry: Reading, new: u32) -> View
         ensures { result ≡ swap_step self run entry new }
     {
-        let w = self.word;
-        let next = w.swap(entry, new);
-        self.word = next;
+        self.word = self.word.swap(entry, new);
         self.at(Point::Run(run.onto(0, run.registers), Stage::Read))
     }
 
     // 6. The sheet is done.
+    #[tactic(auto, unfolding(crate::specs::Try::mark_step))]
     pub fn mark(mut self, run: Run, said: bool) -> View
         ensures { result ≡ mark_step self run said }
     {
@@ -198,14 +170,12 @@ impl View {
     }
 
     // 7. The lock word is free again if that sheet still holds it as it won it. Finish: the own sheet ran; a helped one, not taken.
+    #[tactic(auto, unfolding(crate::specs::Try::release_step))]
     pub fn release(mut self, run: Run, said: bool) -> View
         ensures { result ≡ release_step self run said }
     {
-        let l = self.lock;
-        let next = l.release(run.won, run.sheet);
-        self.lock = next;
-        let k = self.worker;
-        self.to(State::Finished(answer(run, k.own, said)))
+        self.lock = self.lock.release(run.won, run.sheet);
+        self.to(State::Finished(answer(run, self.worker.own, said)))
     }
 
     // One step of a run that is at this stage.
@@ -222,6 +192,7 @@ impl View {
     }
 
     // One step of a worker that is at this point.
+    #[tactic(auto, unfolding(crate::specs::Try::effect_of))]
     pub fn step(self, p: Point) -> View
         ensures { result ≡ effect_of p self }
     {

@@ -40,22 +40,22 @@ abbrev pub on : List Call → Engine
 on calls = after_all fresh calls
 
 -- collect tells the answer of this number, so many accepted steps and, by request 02, so many entries filled
-abbrev pub Answers : CollectTold → ℕ → ℕ → ℕ → Type 0
-Answers (CollectTold.Answered answer n m) number steps filled = (answer_number answer ≡ number) × (n ≡ steps) × (m ≡ filled)
-Answers (CollectTold.Refused r) number steps filled = ⊥
+abbrev pub Answers : Result Answered Refusal → ℕ → ℕ → ℕ → Type 0
+Answers (Ok x) number steps filled = (answer_number x.answer ≡ number) × (x.steps ≡ steps) × (x.filled ≡ filled)
+Answers (Err r) number steps filled = ⊥
 
 -- collect is refused, because the worker is under way
-abbrev pub StillUnderWay : CollectTold → Type 0
-StillUnderWay told = told ≡ CollectTold.Refused WorkerUnderWay
+abbrev pub StillUnderWay : Result Answered Refusal → Type 0
+StillUnderWay told = told ≡ Err WorkerUnderWay
 
 -- collect is refused, because the worker is idle
-abbrev pub NowIdle : CollectTold → Type 0
-NowIdle told = told ≡ CollectTold.Refused WorkerIdle
+abbrev pub NowIdle : Result Answered Refusal → Type 0
+NowIdle told = told ≡ Err WorkerIdle
 
 -- word 0 has this value and count, and lock 0 this turn and holder
-pub record Stands (e : Engine) (value count turn : ℕ) (holder : Holder) : Type 0 where
-  pub word : read_word_of e 0 ≡ WordTold.Is (record { value = value; count = count; guard = 0 })
-  pub lock : read_lock_of e 0 ≡ LockTold.Is (record { turn = turn; holder = holder })
+pub record Stands (e : Engine) (value count turn : ℕ) (holder : Option ℕ) : Type 0 where
+  pub word : read_word_of e 0 ≡ Ok (record { value = value; count = count; guard = 0 })
+  pub lock : read_lock_of e 0 ≡ Ok (record { turn = turn; holder = holder })
 
 -- "Collected answers: 1 ran, yes. 2 ran, no. 3 not taken"
 abbrev pub ran_yes : ℕ
@@ -82,7 +82,7 @@ pub record End : Type 0 where
 pub record Ends (calls : List Call) (w : ℕ) (end : End) : Type 0 where
   pub before : StillUnderWay (collect_of (on (calls ++ steps (end.more - 1) w)) w).told
   pub told : Answers (collect_of (on (calls ++ steps end.more w)) w).told end.answer end.steps end.filled
-  pub left : Stands (on (calls ++ steps end.more w)) end.value end.count end.turn Free
+  pub left : Stands (on (calls ++ steps end.more w)) end.value end.count end.turn None
 
 -- the calls of the rows, up to the steps of the worker that a row is about
 unfoldable pub calls_c : List Call
@@ -105,7 +105,7 @@ abbrev pub halts : ℕ → ℕ → List ℕ
 halts kind n = header (4 + 4 * n) kind (replicate (4 * n) 0)
 
 abbrev pub Taken : ℕ → ℕ → Type 0
-Taken kind n = (begin_of fresh 0 0 (halts kind n)).told ≡ Accepted
+Taken kind n = (begin_of fresh 0 0 (halts kind n)).told ≡ Ok tt
 
 abbrev pub Refused5 : ℕ → ℕ → Type 0
 Refused5 kind n = Refusing fresh (begin_of fresh 0 0 (halts kind n)) 5 0
@@ -120,13 +120,13 @@ calls_long = Begin 0 0 job_long ∷ steps 98 0 ++ (Drop 0 ∷ Begin 1 0 job_b �
 -- the starred rows and those of request 04, each under its two columns; and setup S is accepted. In c and f the drop leaves worker 0
 -- idle; in e and h worker 1's end comes first.
 pub record Table : Type 0 where
-  pub s : (setup_of setup_s).told ≡ Accepted
+  pub s : (setup_of setup_s).told ≡ Ok tt
   -- "A stepped alone": "14 steps, ran yes, word 0 = 6, count 1, turn 1"
   pub a : Ends (Begin 0 0 job_a ∷ []) 0 (record { more = 14; answer = ran_yes; steps = 14; filled = 2; value = 6; count = 1; turn = 1 })
   -- "B alone": "12 steps, ran no"
   pub b : Ends (Begin 0 0 job_b ∷ []) 0 (record { more = 12; answer = ran_no; steps = 12; filled = 2; value = 5; count = 0; turn = 1 })
   -- "worker 0: A, 10 steps, drop": "word 0 = 5, held"
-  pub c : Stands (on calls_c) 5 0 1 (By 0) × NowIdle (collect_of (on calls_c) 0).told
+  pub c : Stands (on calls_c) 5 0 1 (Some 0) × NowIdle (collect_of (on calls_c) 0).told
   -- "then worker 1: B alone": "11 steps, not taken, word 0 = 6, free"
   pub d : Ends calls_d 1 (record { more = 11; answer = not_taken; steps = 11; filled = 0; value = 6; count = 1; turn = 1 })
   -- "as c, d without the drop, then worker 0 stepped to its end": "14 steps, ran yes, count 1"
@@ -136,7 +136,7 @@ pub record Table : Type 0 where
   -- "A, 1 step, drop": "free, turn 0"
   pub f :
       StillUnderWay (collect_of (on (Begin 0 0 job_a ∷ Step 0 ∷ [])) 0).told ×
-      Stands (on (Begin 0 0 job_a ∷ Step 0 ∷ Drop 0 ∷ [])) 5 0 0 Free ×
+      Stands (on (Begin 0 0 job_a ∷ Step 0 ∷ Drop 0 ∷ [])) 5 0 0 None ×
       NowIdle (collect_of (on (Begin 0 0 job_a ∷ Step 0 ∷ Drop 0 ∷ [])) 0).told
   -- "0 has A, 1 has B, both Look free, 0 grabs, then 1 alone": "worker 1: 14 steps, not taken, word 0 = 6"
   pub g : Ends calls_g 1 (record { more = 13; answer = not_taken; steps = 14; filled = 2; value = 6; count = 1; turn = 1 })
@@ -155,7 +155,7 @@ pub record Table : Type 0 where
       Refused5 4 0 × Refused5 4 1 × Refused5 4 32 × Taken 4 33 × Taken 4 64 × Refused5 4 65 ×
       Refusing fresh (begin_of fresh 0 0 (halts 2 65)) 6 0 ×
       Refusing fresh (begin_of fresh 0 0 (0x8C ∷ drop 1 (halts 4 33))) 5 0 ×
-      (told_by old_forms (halts 1 32) 0 [] ≡ Accepted) × (told_by old_forms (halts 4 33) 0 [] ≡ Refused Kind)
+      (told_by old_forms (halts 1 32) 0 [] ≡ Ok tt) × (told_by old_forms (halts 4 33) 0 [] ≡ Err Kind)
   -- "The longest run becomes 63 × 3 + 1 = 190, a helping try 193, any try 196"; the two are reached, by 63 stores alone, and by those cut
   -- off in the middle and helped to the end
   pub bounds : (longest_run instructions ≡ 190) × (help_steps instructions ≡ 193) × (try_steps instructions ≡ 196)

@@ -74,14 +74,14 @@ word_with value count = record { value = value; count = count; guard = 0 }
 
 -- the readers tell these words, and that lock 0 is free at this turn
 pub record Reads (e : Engine) (words : List Word) (turn : ℕ) : Type 0 where
-  pub word : map (read_word_of e) (0 ∷ 1 ∷ 2 ∷ 3 ∷ 4 ∷ []) ≡ map WordTold.Is words
-  pub lock : read_lock_of e 0 ≡ LockTold.Is (record { turn = turn; holder = Free })
+  pub word : map (read_word_of e) (0 ∷ 1 ∷ 2 ∷ 3 ∷ 4 ∷ []) ≡ map Ok words
+  pub lock : read_lock_of e 0 ≡ Ok (record { turn = turn; holder = None })
 
 -- stepped on V the job ends with this answer, yes or no, after so many steps and not one earlier, has filled so many entries, and leaves
 -- these words; and alone, on V's values, it gives the same, so many instructions executed
 pub record Works (job : List ℕ) (yes : Bool) (stepped filled executed : ℕ) (words : List Word) : Type 0 where
   pub before : StillUnderWay (collect_of (stepped_on job (stepped - 1)) 0).told
-  pub told : (collect_of (stepped_on job stepped) 0).told ≡ CollectTold.Answered (pick yes RanYes RanNo) stepped filled
+  pub told : (collect_of (stepped_on job stepped) 0).told ≡ Ok (answered (pick yes RanYes RanNo) stepped filled)
   pub left : Reads (stepped_on job stepped) words 0x01020305
   pub alone :
       alone_of (job_of job) (0x44332211 ∷ 0xFEDCBA98 ∷ 5 ∷ 9 ∷ 7 ∷ []) ≡
@@ -90,7 +90,7 @@ pub record Works (job : List ℕ) (yes : Bool) (stepped filled executed : ℕ) (
 -- Steps: 4 before the run and 2 after it; in it 3 for a store and for a cam that swaps, 2 for a load and for one that doesn't, 1 for any
 -- other. Entries: one for each load, store and cam. Counts: one more for each store and each cam that swaps.
 pub record Worked : Type 0 where
-  pub setup : (setup_of setup_v).told ≡ Accepted
+  pub setup : (setup_of setup_v).told ≡ Ok tt
   pub fresh : Reads fresh_v (word_with 0x44332211 0 ∷ word_with 0xFEDCBA98 0 ∷ word_with 5 0 ∷ word_with 9 0 ∷ word_with 7 0 ∷ []) 0x01020304
   -- set: "register a becomes b + 256c"; load: "register a becomes word b"; store: "word b becomes register a"; halt: "no (a = 0)"
   pub moves :
@@ -110,7 +110,7 @@ pub record Worked : Type 0 where
       (word_with 0x44332211 0 ∷ word_with 0x0105 1 ∷ word_with 0x0105 1 ∷ word_with 9 0 ∷ word_with 0x0105 1 ∷ [])
   -- "Park writes the setup record of the present values and turns": after job_sums, into 36 bytes, of which the last stays
   pub parked :
-      (park_of (stepped_on job_sums 34) 36 ≡ WriteTold.Wrote 35) ×
+      (park_of (stepped_on job_sums 34) 36 ≡ Ok 35) ×
       (parked_of (stepped_on job_sums 34) (replicate 36 0xA5) ≡
       0x23 ∷ 0x00 ∷ 0x02 ∷ 0x00 ∷ 0x01 ∷ 0x05 ∷ 0x00 ∷ 0x00 ∷ 0x00 ∷ 0x00 ∷ 0x00 ∷
       0xA9 ∷ 0xDC ∷ 0x0F ∷ 0x43 ∷ 0x98 ∷ 0xBA ∷ 0xDC ∷ 0xFE ∷

@@ -2,7 +2,7 @@
 mod Names
 use Names.*
 use Rattle.parts.specs.Lay.{lay}
-use Rattle.parts.specs.Pick.{pick, on_holder}
+use Rattle.parts.specs.Pick.{pick, on_option}
 use Rattle.parts.specs.Told.{on_told, refusal_number, refusal_place}
 
 -- in ASCII: a newline, a space and `-`
@@ -62,5 +62,5 @@ unfoldable pub told_text : Told → List ℕ
 told_text told = on_told told (pair_text 0 0) (λ r. refusal_text r)
 
 -- the holding sheet or `-`
-unfoldable pub holder_text : Holder → List ℕ
-holder_text h = on_holder h (space ∷ dash ∷ []) (λ s. number_text s)
+unfoldable pub holder_text : Option ℕ → List ℕ
+holder_text h = on_option h (space ∷ dash ∷ []) (λ s. number_text s)

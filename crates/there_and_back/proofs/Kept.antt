@@ -1,17 +1,17 @@
 -- A sheet in use keeps its program, and so its record: a begin takes another sheet, and no step changes a program.
+use Rattle.std.specs.Prelude.{Err, Ok}
 use Prim.Native.Nat.{ℕ}
 use native.Mathlib.Omega.{arith}
 use mathlib.Core.Path.{◌≡◌, refl, ap}
 use mathlib.Core.Bool.{true, false}
 use mathlib.Core.List.{List}
 use Rattle.parts.specs.declared.Instr.{Instr}
-use Rattle.parts.specs.declared.Told.{Told}
-use Rattle.parts.specs.declared.Told.TheVariants.{Accepted, Refused}
+use Rattle.parts.specs.Told.{Told}
 use Rattle.records.specs.Job.{job_record}
 use Rattle.engine.specs.State.{in_use, free_sheet, worker_at, program_of, sheet_record}
 use Rattle.engine.specs.Step.{places_of, stepped_of}
 use Rattle.engine.specs.Calls.{outcome_of, begin_told, begin_of, step_told, onward_of, step_of, collect_told, collect_of, drop_told, drop_of}
-use Rattle.engine.specs.declared.Collected.{Collected}
+use Rattle.engine.specs.Calls.{Collected}
 use Rattle.engine.specs.declared.Engine.{Engine}
 use Rattle.engine.specs.declared.Outcome.{Outcome}
 use Rattle.ranges.proofs.Frame.{state_all, told_all}
@@ -34,9 +34,9 @@ other_sheet e s u free q = let z : ◌≡◌ {A = ℕ} 0 1 = cc in omega arith
 -- of an outcome: the state as it came has it, and the next state where the call was accepted
 outcome_kept :
     {A : Type 0} (read : Engine → A) (e : Engine) (told : Told) (next : Engine) →
-    (told ≡ Accepted → read next ≡ read e) → read (outcome_of e told next).engine ≡ read e
+    (told ≡ Ok tt → read next ≡ read e) → read (outcome_of e told next).engine ≡ read e
 outcome_kept read e told next h =
-    told_all (λ (o : Outcome). read o.engine ≡ read e) told _ (λ r. record { engine = e; told = Refused r }) h (λ r q. refl)
+    told_all (λ (o : Outcome). read o.engine ≡ read e) told _ (λ r. record { engine = e; told = Err r }) h (λ r q. refl)
 
 -- each call, accepted or refused, keeps the program of a sheet in use
 pub programs_kept : (e : Engine) (s : ℕ) → Good e → in_use e s ≡ true → KeptBy (λ e. program_of e s) e

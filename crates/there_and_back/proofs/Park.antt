@@ -1,4 +1,5 @@
 -- What park writes, setup takes, and it gives the same guards, values and turns.
+use Rattle.std.specs.Prelude.{Err, None, Ok, Option, Some}
 use Prim.Native.Nat.{ℕ, ◌+◌, ◌≤◌, ◌<◌}
 use native.Mathlib.Omega.{arith}
 use mathlib.Core.Path.{◌≡◌, refl, ◌∙◌, sym, ap}
@@ -14,13 +15,10 @@ use Rattle.parts.specs.Lay.{lay}
 use Rattle.parts.specs.Numbers.{last_turn}
 use Rattle.parts.specs.Parts.{word0, lock0}
 use Rattle.parts.specs.Told.{refuse_if}
-use Rattle.parts.specs.Pick.{on_holder}
-use Rattle.parts.specs.declared.Holder.{Holder}
-use Rattle.parts.specs.declared.Holder.TheVariants.{Free, By}
+use Rattle.parts.specs.Pick.{on_option}
 use Rattle.parts.specs.declared.LockWord.{LockWord}
 use Rattle.parts.specs.declared.Refusal.TheVariants.{Range, Buffer, Held}
-use Rattle.parts.specs.declared.Told.{Told}
-use Rattle.parts.specs.declared.Told.TheVariants.{Accepted, Refused}
+use Rattle.parts.specs.Told.{Told}
 use Rattle.parts.specs.declared.Word.{Word}
 use Rattle.parts.proofs.Order.{first_all, row_passes}
 use Rattle.records.specs.Setup.{guards_field, values_field, turns_field, setup_length, setup_told}
@@ -30,7 +28,6 @@ use Rattle.engine.specs.State.{lock_count, word_count, word_at, lock_at, locks_o
 use Rattle.engine.specs.Calls.{fresh_of, setup_of, write_of, park_told, park_of, parked_of}
 use Rattle.engine.specs.declared.Engine.{Engine}
 use Rattle.engine.specs.declared.Outcome.{Outcome}
-use Rattle.engine.specs.declared.WriteTold.{WriteTold}
 use Rattle.ranges.specs.Good.{Fits32, GoodWord, GoodLock, Good}
 use Rattle.ranges.proofs.Frame.{All, take_all, map_all}
 use Rattle.ranges.proofs.Laid.{lay_first}
@@ -39,28 +36,28 @@ use Rattle.ranges.proofs.Fresh.{guards_from, values_from, turns_from, fresh_word
 
 -- a writer that tells how many bytes it wrote was accepted, and wrote so many
 pub wrote :
-    (told : Told) (bytes : List ℕ) (n : ℕ) → write_of told bytes ≡ WriteTold.Wrote n → (told ≡ Accepted) × (n ≡ length bytes)
-wrote Accepted bytes n h = (refl, cc)
-wrote (Refused r) bytes n h = let z : ◌≡◌ {A = ℕ} 0 1 = cc in absurd (omega arith)
+    (told : Told) (bytes : List ℕ) (n : ℕ) → write_of told bytes ≡ Ok n → (told ≡ Ok tt) × (n ≡ length bytes)
+wrote (Ok _) bytes n h = (refl, cc)
+wrote (Err r) bytes n h = let z : ◌≡◌ {A = ℕ} 0 1 = cc in absurd (omega arith)
 
 -- locks none of which is held are free at their turns
-free_all : (ls : List LockWord) (at : ℕ) → held_told ls at ≡ Accepted → map free_at (turns_of ls) ≡ ls
+free_all : (ls : List LockWord) (at : ℕ) → held_told ls at ≡ Ok tt → map free_at (turns_of ls) ≡ ls
 unfolding held_told
 free_all [] at h = refl
 free_all (l ∷ ls) at h = go l.holder refl h (λ k. free_all ls (at + 1) k)
   where
     go :
-        (x : Holder) → l.holder ≡ x → on_holder x (held_told ls (at + 1)) (λ s. Refused (Held at)) ≡ Accepted →
-        (held_told ls (at + 1) ≡ Accepted → map free_at (turns_of ls) ≡ ls) → map free_at (turns_of (l ∷ ls)) ≡ l ∷ ls
-    go Free q k f =
-        let same : free_at l.turn ≡ l = ap (λ (x : Holder). record { turn = l.turn; holder = x }) (sym q) in
+        (x : Option ℕ) → l.holder ≡ x → on_option x (held_told ls (at + 1)) (λ s. Err (Held at)) ≡ Ok tt →
+        (held_told ls (at + 1) ≡ Ok tt → map free_at (turns_of ls) ≡ ls) → map free_at (turns_of (l ∷ ls)) ≡ l ∷ ls
+    go None q k f =
+        let same : free_at l.turn ≡ l = ap (λ (x : Option ℕ). record { turn = l.turn; holder = x }) (sym q) in
         let rest : map free_at (turns_of ls) ≡ ls = f k in
         cc
-    go (By s) q k f = let z : ◌≡◌ {A = ℕ} 0 1 = cc in absurd (omega arith)
+    go (Some s) q k f = let z : ◌≡◌ {A = ℕ} 0 1 = cc in absurd (omega arith)
 
 -- what setup makes of the record rec of the state e: "the present values and turns"
 pub record TakesParked (e : Engine) (rec : List ℕ) : Type 0 where
-  pub told : (setup_of rec).told ≡ Accepted
+  pub told : (setup_of rec).told ≡ Ok tt
   pub locks : (setup_of rec).engine.locks ≡ e.locks
   pub words : (setup_of rec).engine.words ≡ e.words
   pub guards : guards_of (words_of (setup_of rec).engine) ≡ guards_of (words_of e)
@@ -68,17 +65,17 @@ pub record TakesParked (e : Engine) (rec : List ℕ) : Type 0 where
   pub turns : turns_of (locks_of (setup_of rec).engine) ≡ turns_of (locks_of e)
   -- no lock was held, so the lock words are the same; the counts begin anew
   pub same : locks_of (setup_of rec).engine ≡ locks_of e
-  pub free : (k : ℕ) → (lock_at (setup_of rec).engine k).holder ≡ Free
+  pub free : (k : ℕ) → (lock_at (setup_of rec).engine k).holder ≡ None
   pub counts : (k : ℕ) → (word_at (setup_of rec).engine k).count ≡ 0
 
-setup_made : (rec : List ℕ) → setup_told rec ≡ Accepted → setup_of rec ≡ record { engine = fresh_of rec; told = Accepted }
+setup_made : (rec : List ℕ) → setup_told rec ≡ Ok tt → setup_of rec ≡ record { engine = fresh_of rec; told = Ok tt }
 unfolding setup_of
 setup_made rec h = simp h
 
 -- what an accepted park found
 parks :
-    (e : Engine) (buf : List ℕ) → park_told e (length buf) ≡ Accepted →
-    (lock_count e ≡ 0 → ⊥) × (held_told (locks_of e) 0 ≡ Accepted) × (setup_length (lock_count e) (word_count e) ≤ length buf)
+    (e : Engine) (buf : List ℕ) → park_told e (length buf) ≡ Ok tt →
+    (lock_count e ≡ 0 → ⊥) × (held_told (locks_of e) 0 ≡ Ok tt) × (setup_length (lock_count e) (word_count e) ≤ length buf)
 unfolding park_told
 parks e buf h =
     let size = setup_length (lock_count e) (word_count e) in
@@ -96,7 +93,7 @@ pub record Parks (e : Engine) (buf : List ℕ) (n : ℕ) : Type 0 where
   pub taken : TakesParked e (state_record e)
 
 -- a state that is not blank and has no lock held
-module _ (e : Engine) (g : Good e) (some : 1 ≤ e.locks) (held : held_told (locks_of e) 0 ≡ Accepted) where
+module _ (e : Engine) (g : Good e) (some : 1 ≤ e.locks) (held : held_told (locks_of e) 0 ≡ Ok tt) where
   guards : List ℕ
   guards = guards_of (words_of e)
 
@@ -154,7 +151,7 @@ module _ (e : Engine) (g : Good e) (some : 1 ≤ e.locks) (held : held_told (loc
   turns_good = map_all (λ x. x ≤ last_turn) (λ (l : LockWord). l.turn) (locks_of e) lock0 (λ k. (lock_good k).turn)
 
   takes :
-      (setup_told (state_record e) ≡ Accepted) × (guards_field (state_record e) ≡ guards) ×
+      (setup_told (state_record e) ≡ Ok tt) × (guards_field (state_record e) ≡ guards) ×
       (values_field (state_record e) ≡ values) × (turns_field (state_record e) ≡ turns)
   unfolding guards values turns
   takes =
@@ -194,7 +191,7 @@ module _ (e : Engine) (g : Good e) (some : 1 ≤ e.locks) (held : held_told (loc
       }
 
 -- "Park writes the setup record of the present values and turns": setup takes it, and gives them back
-pub park_setup : (e : Engine) (buf : List ℕ) (n : ℕ) → Good e → park_of e (length buf) ≡ WriteTold.Wrote n → Parks e buf n
+pub park_setup : (e : Engine) (buf : List ℕ) (n : ℕ) → Good e → park_of e (length buf) ≡ Ok n → Parks e buf n
 unfolding park_of parked_of
 park_setup e buf n g h =
     let rec = state_record e in

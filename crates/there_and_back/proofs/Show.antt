@@ -1,4 +1,5 @@
 -- A job record that begin takes is what show writes for its sheet, byte for byte.
+use Rattle.std.specs.Prelude.{Err, Ok}
 use Prim.Native.Nat.{ℕ, ◌+◌, ◌*◌, ◌≤◌, ◌<◌}
 use native.Mathlib.Omega.{arith}
 use mathlib.Core.Path.{◌≡◌, refl, ◌∙◌, sym, ap, subst}
@@ -10,8 +11,7 @@ use borrow.Author.Tests.{eq-eqb, lt-leb, le-ltb}
 use Rattle.parts.specs.Lay.{lay}
 use Rattle.parts.specs.Numbers.{sheets}
 use Rattle.parts.specs.declared.Instr.{Instr}
-use Rattle.parts.specs.declared.Told.{Told}
-use Rattle.parts.specs.declared.Told.TheVariants.{Accepted, Refused}
+use Rattle.parts.specs.Told.{Told}
 use Rattle.records.specs.Bytes.{AllBytes}
 use Rattle.records.specs.Job.{job_of, job_record}
 use Rattle.records.proofs.Fours.{code_length}
@@ -24,7 +24,6 @@ use Rattle.engine.specs.State.{in_use, free_sheet, worker_at, program_length, pr
 use Rattle.engine.specs.Calls.{outcome_of, begun_of, begin_told, begin_of, show_told, show_of, shown_of}
 use Rattle.engine.specs.Inner.{Begins}
 use Rattle.engine.specs.declared.Engine.{Engine}
-use Rattle.engine.specs.declared.WriteTold.{WriteTold}
 use Rattle.ranges.specs.Good.{Good}
 use Rattle.ranges.proofs.Free.{begins_free}
 use Rattle.ranges.proofs.Keep.{good_begin}
@@ -34,10 +33,10 @@ use Rattle.ranges.proofs.Programs.{program_length_lem, begun_job}
 
 -- a call that tells it was accepted was, and gave the next state
 pub accepted :
-    (e : Engine) (told : Told) (next : Engine) → (outcome_of e told next).told ≡ Accepted →
-    (told ≡ Accepted) × ((outcome_of e told next).engine ≡ next)
-accepted e Accepted next h = (refl, refl)
-accepted e (Refused r) next h = let z : ◌≡◌ {A = ℕ} 0 1 = cc in absurd (omega arith)
+    (e : Engine) (told : Told) (next : Engine) → (outcome_of e told next).told ≡ Ok tt →
+    (told ≡ Ok tt) × ((outcome_of e told next).engine ≡ next)
+accepted e (Ok _) next h = (refl, refl)
+accepted e (Err r) next h = let z : ◌≡◌ {A = ℕ} 0 1 = cc in absurd (omega arith)
 
 -- the length of a sheet's record
 module _ (e : Engine) (s : ℕ) (g : Good e) (h : s < sheets) where
@@ -46,13 +45,13 @@ module _ (e : Engine) (s : ℕ) (g : Good e) (h : s < sheets) where
 
   -- a sheet in use is shown in a buffer that has room: its record stands first, and the bytes after it don't change
   module _ (u : in_use e s ≡ true) (buf : List ℕ) (room : length (sheet_record e s) ≤ length buf) where
-    show_accepted : show_told e s (length buf) ≡ Accepted
+    show_accepted : show_told e s (length buf) ≡ Ok tt
     unfolding show_told
     show_accepted =
         let n : 4 + 4 * program_length e s ≤ length buf = omega (arith, record_length_lem) in
         simp (u, lt-leb sheets s h, le-ltb (length buf) (4 + 4 * program_length e s) n)
 
-    pub shows : show_of e s (length buf) ≡ WriteTold.Wrote (length (sheet_record e s))
+    pub shows : show_of e s (length buf) ≡ Ok (length (sheet_record e s))
     unfolding show_of
     shows = simp show_accepted
 
@@ -70,7 +69,7 @@ pub record ShowsBegun (e e' : Engine) (s : ℕ) (rec : List ℕ) : Type 0 where
   pub program : program_of e' s ≡ job_of rec
   pub bytes : sheet_record e' s ≡ rec
   -- show tells the record's length, and writes it first; "the bytes after them don't change"
-  pub told : (buf : List ℕ) → length rec ≤ length buf → show_of e' s (length buf) ≡ WriteTold.Wrote (length rec)
+  pub told : (buf : List ℕ) → length rec ≤ length buf → show_of e' s (length buf) ≡ Ok (length rec)
   pub laid : (buf : List ℕ) → length rec ≤ length buf → shown_of e' s buf ≡ lay 0 rec buf
   pub shown : (buf : List ℕ) → length rec ≤ length buf → shown_of e' s buf ≡ rec ++ drop (length rec) buf
 
@@ -104,7 +103,7 @@ shows_begun e e' s rec g h f u p q =
       used = u;
       program = p;
       bytes = q;
-      told = λ buf room. shows e' s g h u buf (fits buf room) ∙ ap (λ (r : List ℕ). WriteTold.Wrote (length r)) q;
+      told = λ buf room. shows e' s g h u buf (fits buf room) ∙ ap (λ (r : List ℕ). Ok (length r)) q;
       laid = λ buf room. laid buf room;
       shown = λ buf room. laid buf room ∙ lay_first rec buf room;
     }
@@ -117,7 +116,7 @@ shows_begun e e' s rec g h f u p q =
 
 -- an accepted begin takes the lowest free sheet, and show writes of it the record that begin took
 pub show_begin :
-    (e : Engine) (w l : ℕ) (rec : List ℕ) → Good e → AllBytes rec → (begin_of e w l rec).told ≡ Accepted →
+    (e : Engine) (w l : ℕ) (rec : List ℕ) → Good e → AllBytes rec → (begin_of e w l rec).told ≡ Ok tt →
     ShowsBegun e (begin_of e w l rec).engine (free_sheet e) rec
 unfolding begin_of
 show_begin e w l rec g b h =

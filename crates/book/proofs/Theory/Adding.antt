@@ -1,4 +1,5 @@
 -- "write a book, with one new numbered job in its place": the entries that are written are the old ones with the new one among them.
+use Rattle.std.specs.Prelude.{Ok}
 use Prim.Native.Nat.{ℕ, zero, suc, ◌+◌, ◌≤◌}
 use native.Mathlib.Omega.{arith}
 use mathlib.Core.List.{List, [], ◌∷◌, ◌++◌}
@@ -10,11 +11,10 @@ use lib.Seq.{take_at, drop_at}
 use borrow.Author.Tests.{ltb-false}
 use Rattle.parts.specs.Told.{refuse_if}
 use Rattle.parts.specs.declared.Refusal.TheVariants.{NotThere, Present}
-use Rattle.parts.specs.declared.Told.TheVariants.{Accepted}
 use Rattle.parts.proofs.Order.{first_all, row_passes}
 use Rattle.records.specs.Bytes.{AllBytes}
 use Rattle.book.specs.Formed.{formed_told}
-use Rattle.book.specs.Book.{head_bytes, book_told, place_of}
+use Rattle.book.specs.Book.{head_bytes, book_told, place_of, place_at, place_size}
 use Rattle.book.specs.Add.{last_number, entry_bytes, job_order, add_told, added_bytes}
 use Rattle.book.specs.Books.{Holds, AddsTo}
 use Rattle.book.proofs.Theory.Entries.{Entry, book_bytes, Rises, Has, bytes_append}
@@ -26,7 +26,7 @@ use Rattle.book.proofs.Theory.Seeking.{place_in}
 -- entries still rise with one more among them, past those below it
 rises_with :
     (low : ℕ) (lo hi : List Entry) (e : Entry) (size : ℕ) → Rises low (lo ++ hi) → Below e.number lo → Here e.number hi size →
-    size ≡ 0 → low ≤ e.number → formed_told e.job ≡ Accepted → Rises low (lo ++ e ∷ hi)
+    size ≡ 0 → low ≤ e.number → formed_told e.job ≡ Ok tt → Rises low (lo ++ e ∷ hi)
 unfolding Rises Below Here
 rises_with low [] [] e size h u k z l f = (l, f, record {})
 rises_with low [] (g ∷ hi) e size h u (inl (a, b)) z l f = absurd (omega arith)
@@ -51,7 +51,7 @@ entry_bytes_lem n rec l b (suc (suc (suc (suc (suc (suc k)))))) = b k
 -- a job that is written to a good book, which has no such number
 module _
     (book : List ℕ) (number : ℕ) (rec : List ℕ) (b : AllBytes book) (c : AllBytes rec) (r : Read 0 book) (most : number ≤ last_number)
-    (formed : formed_told rec ≡ Accepted) (free : (place_of book number).size ≡ 0) where
+    (formed : formed_told rec ≡ Ok tt) (free : (place_size (place_of book number)) ≡ 0) where
   -- where the number belongs among the entries; its entry; and the entries with it
   place : Placed number 0 r.entries (place_of book number)
   place = place_in book number r
@@ -67,7 +67,7 @@ module _
   old_rise = subst (λ (l : List Entry). Rises 0 l) place.is r.rise
 
   rise : Rises 0 after
-  rise = rises_with 0 place.lo place.hi new (place_of book number).size old_rise place.under place.here free (omega arith) formed
+  rise = rises_with 0 place.lo place.hi new (place_size (place_of book number)) old_rise place.under place.here free (omega arith) formed
 
   -- the old book is the bytes of those before the place and of those after it
   halved : book ≡ book_bytes place.lo ++ book_bytes place.hi
@@ -77,7 +77,7 @@ module _
   written : added_bytes book number rec ≡ book_bytes after
   unfolding added_bytes book_bytes
   written =
-      let at = (place_of book number).at in
+      let at = (place_at (place_of book number)) in
       let n : length (book_bytes place.lo) ≡ at = omega (arith, place.place) in
       let front = ap (take at) halved ∙ take_at (book_bytes place.lo) (book_bytes place.hi) at n in
       let back = ap (drop at) halved ∙ drop_at (book_bytes place.lo) (book_bytes place.hi) at n in
@@ -88,7 +88,7 @@ module _
   size : length (added_bytes book number rec) ≡ length book + (head_bytes + length rec)
   unfolding added_bytes
   size =
-      let at = (place_of book number).at in
+      let at = (place_at (place_of book number)) in
       let whole = sym (length-append (take at book) (drop at book)) ∙ ap length (take-append-drop at book) in
       omega (
         arith,
@@ -101,7 +101,7 @@ module _
   bytes : AllBytes (added_bytes book number rec)
   unfolding added_bytes
   bytes =
-      let at = (place_of book number).at in
+      let at = (place_at (place_of book number)) in
       let h = subst (λ (s : List ℕ). AllBytes s) (sym (take-append-drop at book)) b in
       bytes_both (take at book) (entry_bytes number rec ++ drop at book) (bytes_before (take at book) (drop at book) h)
       (bytes_both (entry_bytes number rec) (drop at book) (entry_bytes_lem number rec most c) (bytes_after (take at book) (drop at book) h))
@@ -158,9 +158,9 @@ module _
 -- where the writer accepts: the book was good, the number is none of its own, the job has its form
 pub adds :
     (book : List ℕ) (number : ℕ) (rec : List ℕ) (room : ℕ) → AllBytes book → AllBytes rec →
-    add_told book number rec room ≡ Accepted → AddsTo book number rec
+    add_told book number rec room ≡ Ok tt → AddsTo book number rec
 unfolding add_told
 adds book number rec room b c h =
     let row = first_all (book_told book ∷ refuse_if (ltb last_number number) NotThere ∷ job_order book number rec room) h in
-    let free = ltb-false 0 (place_of book number).size (row_passes _ Present (row 3)) in
+    let free = ltb-false 0 (place_size (place_of book number)) (row_passes _ Present (row 3)) in
     adds_to book number rec b c (read book b (row 0)) (ltb-false last_number number (row_passes _ NotThere (row 1))) (row 2) (omega arith)

@@ -1,4 +1,5 @@
 -- A book as a list of entries: its bytes, that its numbers rise, which jobs it has; and that one list of bytes has one first entry.
+use Rattle.std.specs.Prelude.{Ok}
 use Prim.Native.Nat.{ℕ, ◌+◌, ◌-◌, ◌≤◌, ◌<◌}
 use native.Mathlib.Omega.{arith}
 use mathlib.Core.List.{List, [], ◌∷◌, ◌++◌, append_assoc}
@@ -7,7 +8,6 @@ use mathlib.Core.Path.{◌≡◌, refl, ◌∙◌, sym, ap}
 use lib.ListN.{length, take, drop}
 use lib.Seq.{take_at, drop_at}
 use Rattle.parts.specs.Told.{first_of}
-use Rattle.parts.specs.declared.Told.TheVariants.{Accepted}
 use Rattle.parts.proofs.Order.{both_pass}
 use Rattle.records.specs.Bytes.{length_field}
 use Rattle.records.specs.Job.{forms, form_order, job_of}
@@ -33,7 +33,7 @@ book_bytes (e ∷ es) = entry_of e ++ book_bytes es
 -- the numbers strictly rise, from `low` on, and every job has its form
 unfoldable pub Rises : ℕ → List Entry → Type 0
 Rises low [] = Unit {0}
-Rises low (e ∷ es) = (low ≤ e.number) × (formed_told e.job ≡ Accepted) × Rises (e.number + 1) es
+Rises low (e ∷ es) = (low ≤ e.number) × (formed_told e.job ≡ Ok tt) × Rises (e.number + 1) es
 
 -- a job stands among the entries under a number
 unfoldable pub Has : ℕ → List ℕ → List Entry → Type 0
@@ -41,7 +41,7 @@ Has n rec [] = ⊥
 Has n rec (e ∷ es) = ((e.number ≡ n) × (e.job ≡ rec)) ⊎ Has n rec es
 
 -- a job of a book has 8 to 260 bytes
-pub job_size : (rec : List ℕ) → formed_told rec ≡ Accepted → (8 ≤ length rec) × (length rec ≤ 260)
+pub job_size : (rec : List ℕ) → formed_told rec ≡ Ok tt → (8 ≤ length rec) × (length rec ≤ 260)
 unfolding formed_told
 job_size rec h =
     let f = formed rec (both_pass (first_of (form_order forms rec)) (code_formed (job_of rec) 0) h).0 in

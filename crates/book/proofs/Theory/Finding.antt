@@ -7,44 +7,45 @@ use mathlib.Core.Path.{◌≡◌, refl, ◌∙◌, sym, ap, subst}
 use lib.ListN.{length}
 use Rattle.parts.specs.declared.Refusal.{Refusal}
 use Rattle.parts.specs.declared.Refusal.TheVariants.{NotThere}
-use Rattle.parts.specs.declared.Told.{Told}
-use Rattle.parts.specs.declared.Told.TheVariants.{Accepted, Refused}
+use Rattle.parts.specs.Told.{Told}
 use Rattle.records.specs.Bytes.{AllBytes}
 use Rattle.book.specs.Formed.{formed_told}
-use Rattle.book.specs.Book.{book_told, place_of, found_in, nowhere, in_books, find_of, part_of, lookup_of}
+use Rattle.book.specs.Book.{book_told, place_of, Search, found_at, nowhere, told_of, which_of, in_books, find_of, part_of, lookup_of}
 use Rattle.book.specs.Books.{Holds, HasNot, LooksUp}
-use Rattle.book.specs.declared.Found.{Found}
+use Rattle.std.specs.Prelude.{Option, Some, None, Err, Ok}
+use Rattle.book.specs.declared.Book.{Book}
+use Rattle.book.specs.declared.Book.TheVariants.{Line, Factory}
 use Rattle.book.proofs.Theory.Entries.{job_size}
 use Rattle.book.proofs.Theory.Passing.{refused_so}
 use Rattle.book.proofs.Theory.Seeking.{Seek, there, gone, seek}
 
 -- accepted is not refused
-pub not_both : {A : Type 0} {t : Told} {r : Refusal} → t ≡ Accepted → t ≡ Refused r → A
+pub not_both : {A : Type 0} {t : Told} {r : Refusal} → t ≡ Ok tt → t ≡ Err r → A
 not_both h k = let z : ◌≡◌ {A = ℕ} 0 1 = cc in absurd (omega arith)
 
 module _ (line factory : List ℕ) (number : ℕ) where
   -- what is told
-  abbrev found : Found
+  abbrev found : Search
   found = find_of line factory number
 
   -- the part of what is told
-  looked : (f : Found) → found ≡ f → lookup_of line factory number ≡ part_of f line factory
+  looked : (f : Search) → found ≡ f → lookup_of line factory number ≡ part_of f line factory
   unfolding lookup_of
-  looked f e = ap (λ (f : Found). part_of f line factory) e
+  looked f e = ap (λ (f : Search). part_of f line factory) e
 
   -- nothing is told of a job: the part is empty
   refused :
-      (book : ℕ) (r : Refusal) → found ≡ nowhere book r →
-      (r ≡ NotThere → (book_told line ≡ Accepted) × (book_told factory ≡ Accepted) × HasNot line number × HasNot factory number) →
-      (book_told line ≡ Accepted → book_told factory ≡ Accepted → r ≡ NotThere) → LooksUp line factory number
+      (book : Option Book) (r : Refusal) → found ≡ nowhere book r →
+      (r ≡ NotThere → (book_told line ≡ Ok tt) × (book_told factory ≡ Ok tt) × HasNot line number × HasNot factory number) →
+      (book_told line ≡ Ok tt → book_told factory ≡ Ok tt → r ≡ NotThere) → LooksUp line factory number
   refused book r e h k =
-      let t : found.told ≡ Refused r = ap (λ (f : Found). f.told) e in
+      let t : told_of found ≡ Err r = ap told_of e in
       record {
         book = λ a. not_both a t;
         in_line = λ a b. not_both a t;
         in_factory = λ a b. not_both a t;
-        not_there = λ a. h (let q : Refused r ≡ Refused NotThere = sym t ∙ a in cc);
-        only_then = λ a b c d. t ∙ ap Refused (k a b);
+        not_there = λ a. h (let q : Err r ≡ Err NotThere = sym t ∙ a in cc);
+        only_then = λ a b c d. t ∙ ap Err (k a b);
         empty = λ q a. looked (nowhere book r) e;
         full = λ a. not_both a t;
         formed = λ a. not_both a t;
@@ -52,18 +53,18 @@ module _ (line factory : List ℕ) (number : ℕ) where
 
   -- a book is malformed
   malformed :
-      (book : ℕ) (r : Refusal) → found ≡ nowhere book r → (s : List ℕ) → book_told s ≡ Refused r →
-      (book_told line ≡ Accepted → book_told factory ≡ Accepted → book_told s ≡ Accepted) → LooksUp line factory number
+      (book : Option Book) (r : Refusal) → found ≡ nowhere book r → (s : List ℕ) → book_told s ≡ Err r →
+      (book_told line ≡ Ok tt → book_told factory ≡ Ok tt → book_told s ≡ Ok tt) → LooksUp line factory number
   malformed book r e s h k =
       refused book r e
       (λ q. let m = refused_so 0 0 0 s r h in let w = m.1 in let z : ◌≡◌ {A = ℕ} 0 1 = cc in absurd (omega arith))
       (λ a b. not_both (k a b) h)
 
   -- a job is found, whose record is the part
-  module _ (rec : List ℕ) (f : formed_told rec ≡ Accepted) (told : found.told ≡ Accepted) (part : lookup_of line factory number ≡ rec) where
+  module _ (rec : List ℕ) (f : formed_told rec ≡ Ok tt) (told : told_of found ≡ Ok tt) (part : lookup_of line factory number ≡ rec) where
     found_in_lem :
-        (found.book ≡ 1) ⊎ (found.book ≡ 2) → (found.book ≡ 1 → Holds line number rec) →
-        (found.book ≡ 2 → Holds factory number rec × HasNot line number) →
+        (which_of found ≡ 1) ⊎ (which_of found ≡ 2) → (which_of found ≡ 1 → Holds line number rec) →
+        (which_of found ≡ 2 → Holds factory number rec × HasNot line number) →
         (HasNot line number → HasNot factory number → ⊥) → LooksUp line factory number
     found_in_lem which a b c = record {
       book = λ h. which;
@@ -77,7 +78,7 @@ module _ (line factory : List ℕ) (number : ℕ) where
     }
 
   -- both books are good
-  module _ (a : book_told line ≡ Accepted) (b : book_told factory ≡ Accepted) where
+  module _ (a : book_told line ≡ Ok tt) (b : book_told factory ≡ Ok tt) where
     -- then the number is looked for, in the line book and after it in the factory book
     pub in_books_lem : found ≡ in_books line factory number
     unfolding find_of
@@ -86,23 +87,23 @@ module _ (line factory : List ℕ) (number : ℕ) where
     -- by what each of them comes to
     both_good : Seek line number → Seek factory number → LooksUp line factory number
     both_good (there rec t p h f) s =
-        let e : found ≡ found_in 1 (place_of line number) = in_books_lem ∙ simp t in
-        let one = ap (λ (f : Found). f.book) e in
-        found_in_lem rec f (ap (λ (f : Found). f.told) e) (looked _ e ∙ p) (inl one) (λ k. h) (λ k. absurd (omega arith)) (λ k l. k rec h)
+        let e : found ≡ found_at Line (place_of line number) = in_books_lem ∙ simp t in
+        let one = ap which_of e in
+        found_in_lem rec f (ap told_of e) (looked _ e ∙ p) (inl one) (λ k. h) (λ k. absurd (omega arith)) (λ k l. k rec h)
     both_good (gone t n) (there rec u p h f) =
-        let e : found ≡ found_in 2 (place_of factory number) = in_books_lem ∙ simp (t, u) in
-        let two = ap (λ (f : Found). f.book) e in
-        found_in_lem rec f (ap (λ (f : Found). f.told) e) (looked _ e ∙ p) (inr two) (λ k. absurd (omega arith)) (λ k. (h, n)) (λ k l. l rec h)
+        let e : found ≡ found_at Factory (place_of factory number) = in_books_lem ∙ simp (t, u) in
+        let two = ap which_of e in
+        found_in_lem rec f (ap told_of e) (looked _ e ∙ p) (inr two) (λ k. absurd (omega arith)) (λ k. (h, n)) (λ k l. l rec h)
     both_good (gone t n) (gone u m) =
-        let e : found ≡ nowhere 0 NotThere = in_books_lem ∙ simp (t, u) in
-        refused 0 NotThere e (λ q. (a, b, n, m)) (λ q s. refl)
+        let e : found ≡ nowhere None NotThere = in_books_lem ∙ simp (t, u) in
+        refused None NotThere e (λ q. (a, b, n, m)) (λ q s. refl)
 
   -- a book with a fault is told of, the line book first
-  pub line_bad : (r : Refusal) → book_told line ≡ Refused r → found ≡ nowhere 1 r
+  pub line_bad : (r : Refusal) → book_told line ≡ Err r → found ≡ nowhere (Some Line) r
   unfolding find_of
   line_bad r h = simp h
 
-  pub factory_bad : (r : Refusal) → book_told line ≡ Accepted → book_told factory ≡ Refused r → found ≡ nowhere 2 r
+  pub factory_bad : (r : Refusal) → book_told line ≡ Ok tt → book_told factory ≡ Err r → found ≡ nowhere (Some Factory) r
   unfolding find_of
   factory_bad r a h = simp (a, h)
 
@@ -112,8 +113,8 @@ pub lookup :
 lookup line factory number b c = go (book_told line) (book_told factory) refl refl
   where
     go : (t u : Told) → book_told line ≡ t → book_told factory ≡ u → LooksUp line factory number
-    go Accepted Accepted h k =
+    go (Ok _) (Ok _) h k =
         both_good line factory number h k (seek line number b h) (seek factory number c k)
-    go Accepted (Refused r) h k =
-        malformed line factory number 2 r (factory_bad line factory number r h k) factory k (λ p q. q)
-    go (Refused r) u h k = malformed line factory number 1 r (line_bad line factory number r h) line h (λ p q. p)
+    go (Ok _) (Err r) h k =
+        malformed line factory number (Some Factory) r (factory_bad line factory number r h k) factory k (λ p q. q)
+    go (Err r) u h k = malformed line factory number (Some Line) r (line_bad line factory number r h) line h (λ p q. p)

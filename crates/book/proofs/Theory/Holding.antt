@@ -1,11 +1,11 @@
 -- What a good book holds is what stands among its entries; a number names one job.
+use Rattle.std.specs.Prelude.{Ok}
 use Prim.Native.Nat.{ℕ, ◌+◌, ◌≤◌, ◌<◌}
 use native.Mathlib.Omega.{arith}
 use mathlib.Core.List.{List, [], ◌∷◌, ◌++◌, append_assoc}
 use mathlib.Core.Logic.{inl, inr}
 use mathlib.Core.Path.{◌≡◌, ◌∙◌, sym, ap, subst}
 use lib.ListN.{length}
-use Rattle.parts.specs.declared.Told.TheVariants.{Accepted}
 use Rattle.records.specs.Bytes.{AllBytes}
 use Rattle.book.specs.Formed.{formed_told}
 use Rattle.book.specs.Book.{head_bytes, book_told}
@@ -15,7 +15,7 @@ use Rattle.book.proofs.Theory.Entries.{Entry, entry_of, book_bytes, Rises, Has, 
 use Rattle.book.proofs.Theory.Reading.{Read, read, rises_good, bytes_before}
 
 -- a job's entry is short enough for its length field
-pub formed_fits : (rec : List ℕ) → formed_told rec ≡ Accepted → head_bytes + length rec < 65536
+pub formed_fits : (rec : List ℕ) → formed_told rec ≡ Ok tt → head_bytes + length rec < 65536
 formed_fits rec f = omega (arith, job_size rec f)
 
 -- an entry that stands after whole entries is one of them
@@ -44,7 +44,7 @@ holds_has book r n rec b h =
 
 -- an entry among others, as it stands
 pub entry_holds :
-    (lo : List Entry) (e : Entry) (hi : List Entry) → Rises 0 (lo ++ e ∷ hi) → formed_told e.job ≡ Accepted →
+    (lo : List Entry) (e : Entry) (hi : List Entry) → Rises 0 (lo ++ e ∷ hi) → formed_told e.job ≡ Ok tt →
     Holds (book_bytes (lo ++ e ∷ hi)) e.number e.job
 unfolding book_bytes
 entry_holds lo e hi h f = record {
@@ -70,7 +70,7 @@ split n rec (e ∷ es) (inr h) =
     let s = split n rec es h in record { lo = e ∷ s.lo; hi = s.hi; is = ap (λ (l : List Entry). e ∷ l) s.is }
 
 -- every job has its form
-pub has_formed : (low : ℕ) (n : ℕ) (rec : List ℕ) (es : List Entry) → Rises low es → Has n rec es → formed_told rec ≡ Accepted
+pub has_formed : (low : ℕ) (n : ℕ) (rec : List ℕ) (es : List Entry) → Rises low es → Has n rec es → formed_told rec ≡ Ok tt
 unfolding Rises Has
 has_formed low n rec [] h k = absurd k
 has_formed low n rec (e ∷ es) (l, f, h) (inl (a, b)) = ap formed_told (sym b) ∙ f
@@ -104,7 +104,7 @@ has_one low n a b (e ∷ es) (l, f, h) (inr k) (inr m) = has_one (e.number + 1) 
 
 -- "numbers strictly rise": a number names one job
 pub one :
-    (book : List ℕ) (number : ℕ) (a b : List ℕ) → AllBytes book → book_told book ≡ Accepted →
+    (book : List ℕ) (number : ℕ) (a b : List ℕ) → AllBytes book → book_told book ≡ Ok tt →
     Holds book number a → Holds book number b → a ≡ b
 one book number a b bytes good h k =
     let r = read book bytes good in

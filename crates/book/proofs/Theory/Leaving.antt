@@ -1,4 +1,5 @@
 -- What the writer tells where the book, the number and the job are good, and what it leaves in the buffer.
+use Rattle.std.specs.Prelude.{Err, Ok}
 use Prim.Native.Nat.{ℕ, ◌+◌, ◌≤◌, ◌<◌}
 use native.Mathlib.Omega.{arith}
 use mathlib.Core.Bool.{false}
@@ -8,7 +9,6 @@ use lib.ListN.{length, drop}
 use borrow.Author.Tests.{lt-ltb, le-ltb}
 use Rattle.parts.specs.declared.Refusal.{Refusal}
 use Rattle.parts.specs.declared.Refusal.TheVariants.{Present, Buffer}
-use Rattle.parts.specs.declared.Told.TheVariants.{Accepted, Refused}
 use Rattle.parts.proofs.Lay.{lay_is}
 use Rattle.records.specs.Bytes.{AllBytes}
 use Rattle.book.specs.Formed.{formed_told}
@@ -21,27 +21,27 @@ use Rattle.book.proofs.Theory.Seeking.{Seek, there, gone, seek}
 
 module _ (book : List ℕ) (number : ℕ) (rec buf : List ℕ) (b : AllBytes book) (c : AllBytes rec) where
   written :
-      add_told book number rec (length buf) ≡ Accepted →
+      add_told book number rec (length buf) ≡ Ok tt →
       add_left book number rec buf ≡ added_bytes book number rec ++ drop (length (added_bytes book number rec)) buf
   unfolding add_left
   written h =
       let all = added_bytes book number rec in
       let n = (adds book number rec (length buf) b c h).size in
-      let fits = (adds_by book number rec (length buf) Accepted (sym h) refl).fits in
+      let fits = (adds_by book number rec (length buf) (Ok tt) (sym h) refl).fits in
       let z : 0 + length all ≡ length all = omega arith in
       simp h (lay_is 0 all buf (omega arith) ∙ ap (λ (k : ℕ). all ++ drop k buf) z)
 
-  nothing : (r : Refusal) → add_told book number rec (length buf) ≡ Refused r → add_left book number rec buf ≡ buf
+  nothing : (r : Refusal) → add_told book number rec (length buf) ≡ Err r → add_left book number rec buf ≡ buf
   unfolding add_left
   nothing r h = simp h
 
   -- the book, the number and the job are good
-  module _ (g : book_told book ≡ Accepted) (k : number ≤ last_number) (f : formed_told rec ≡ Accepted) where
-    present : (job : List ℕ) → Holds book number job → add_told book number rec (length buf) ≡ Refused Present
+  module _ (g : book_told book ≡ Ok tt) (k : number ≤ last_number) (f : formed_told rec ≡ Ok tt) where
+    present : (job : List ℕ) → Holds book number job → add_told book number rec (length buf) ≡ Err Present
     unfolding add_told
     present job h = go (seek book number b g)
       where
-        go : Seek book number → add_told book number rec (length buf) ≡ Refused Present
+        go : Seek book number → add_told book number rec (length buf) ≡ Err Present
         go (there job t p q r) = simp (g, le-ltb last_number number k, f, t)
         go (gone t n) = absurd (n job h)
 
@@ -53,11 +53,11 @@ module _ (book : List ℕ) (number : ℕ) (rec buf : List ℕ) (b : AllBytes boo
           go (there job t p q r) = absurd (n job q)
           go (gone t m) = t
 
-      short : length buf < length book + (head_bytes + length rec) → add_told book number rec (length buf) ≡ Refused Buffer
+      short : length buf < length book + (head_bytes + length rec) → add_told book number rec (length buf) ≡ Err Buffer
       unfolding add_told
       short h = let t = absent in simp (g, le-ltb last_number number k, f, t, lt-ltb (length buf) (length book + (head_bytes + length rec)) h)
 
-      room : length book + (head_bytes + length rec) ≤ length buf → add_told book number rec (length buf) ≡ Accepted
+      room : length book + (head_bytes + length rec) ≤ length buf → add_told book number rec (length buf) ≡ Ok tt
       unfolding add_told
       room h = let t = absent in simp (g, le-ltb last_number number k, f, t, le-ltb (length buf) (length book + (head_bytes + length rec)) h)
 

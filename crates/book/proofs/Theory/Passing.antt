@@ -3,41 +3,24 @@ use Prim.Native.Nat.{ℕ, zero, suc, ◌+◌, ◌-◌, ◌/◌, ◌%◌, ◌≤�
 use native.Mathlib.Omega.{arith}
 use mathlib.Core.Bool.{Bool, true, false}
 use mathlib.Core.List.{List, [], ◌∷◌, ◌++◌}
-use mathlib.Core.Path.{◌≡◌, refl, ◌∙◌, ap}
+use mathlib.Core.Path.{◌≡◌, ◌∙◌, ap}
 use lib.ListN.{length, drop, length-append}
 use lib.Seq.{drop-append_seam}
 use borrow.Author.Tests.{le-ltb, lt-ltb, eq-eqb, ne_eqb}
 use Rattle.parts.specs.Pick.{pick}
 use Rattle.parts.specs.declared.Refusal.{Refusal}
 use Rattle.parts.specs.declared.Refusal.TheVariants.{Malformed}
-use Rattle.parts.specs.declared.Told.{Told}
-use Rattle.parts.specs.declared.Told.TheVariants.{Accepted, Refused}
+use Rattle.parts.specs.Told.{Told}
 use Rattle.records.specs.Bytes.{length_field}
 use Rattle.book.specs.Formed.{formed_told}
 use Rattle.book.specs.Book.{entry_kind, head_bytes, number_field, bad_entry, book_from, place_from}
 use Rattle.book.specs.Add.{entry_bytes}
+use Rattle.std.specs.Prelude.{Ok, Err}
+use Rattle.book.proofs.Turns.{book_drop, place_drop}
 use Rattle.book.proofs.Theory.Entries.{job_size, front_length, front_number, front_job}
 
--- bytes that are passed over
-pub book_pass : (n at low : ℕ) (s : List ℕ) → book_from n at low s ≡ book_from 0 (at + n) low (drop n s)
-unfolding book_from
-book_pass zero at low [] = refl
-book_pass (suc n) at low [] = refl
-book_pass zero at low (b ∷ s) = let e : at + 0 ≡ at = omega arith in simp e
-book_pass (suc n) at low (b ∷ s) = let e : at + 1 + n ≡ at + suc n = omega arith in book_pass n (at + 1) low s ∙ simp e
-
--- the same in the search for a place
-pub place_pass :
-    (number n at : ℕ) (s : List ℕ) → n ≤ length s → place_from number n at s ≡ place_from number 0 (at + n) (drop n s)
-unfolding place_from
-place_pass number zero at [] h = let e : at + 0 ≡ at = omega arith in simp e
-place_pass number (suc n) at [] h = absurd (omega arith)
-place_pass number zero at (b ∷ s) h = let e : at + 0 ≡ at = omega arith in simp e
-place_pass number (suc n) at (b ∷ s) h =
-    let e : at + 1 + n ≡ at + suc n = omega arith in place_pass number n (at + 1) s (omega arith) ∙ simp e
-
 -- a walk refuses a book with 18 alone
-pub refused_so : (n at low : ℕ) (s : List ℕ) (r : Refusal) → book_from n at low s ≡ Refused r → (k : ℕ) × (r ≡ Malformed k)
+pub refused_so : (n at low : ℕ) (s : List ℕ) (r : Refusal) → book_from n at low s ≡ Err r → (k : ℕ) × (r ≡ Malformed k)
 unfolding book_from
 refused_so n at low [] r h = let z : ◌≡◌ {A = ℕ} 0 1 = cc in absurd (omega arith)
 refused_so (suc n) at low (b ∷ s) r h = refused_so n (at + 1) low s r h
@@ -45,7 +28,7 @@ refused_so zero at low (b ∷ s) r h =
     go (bad_entry low (b ∷ s)) h (refused_so (length_field (b ∷ s) - 1) (at + 1) (number_field (b ∷ s) + 1) s r)
   where
     go :
-        {u : Told} (q : Bool) → pick q (Refused (Malformed at)) u ≡ Refused r → (u ≡ Refused r → (k : ℕ) × (r ≡ Malformed k)) →
+        {u : Told} (q : Bool) → pick q (Err (Malformed at)) u ≡ Err r → (u ≡ Err r → (k : ℕ) × (r ≡ Malformed k)) →
         (k : ℕ) × (r ≡ Malformed k)
     go true e f = (at, cc)
     go false e f = f e
@@ -62,16 +45,16 @@ module _ (at b : ℕ) (s : List ℕ) (size n : ℕ) (l : length_field (b ∷ s) 
   unfolding place_from
   place_turn number h = simp (m, l, lt-ltb n number h)
 
-  place_here : (number : ℕ) → n ≡ number → place_from number 0 at (b ∷ s) ≡ record { at = at; size = size }
+  place_here : (number : ℕ) → n ≡ number → place_from number 0 at (b ∷ s) ≡ Ok (record { at = at; size = size })
   unfolding place_from
   place_here number h = simp (m, l, le-ltb n number (omega arith), eq-eqb n number h)
 
-  place_gone : (number : ℕ) → number < n → place_from number 0 at (b ∷ s) ≡ record { at = at; size = 0 }
+  place_gone : (number : ℕ) → number < n → place_from number 0 at (b ∷ s) ≡ Err at
   unfolding place_from
   place_gone number h = simp (m, l, le-ltb n number (omega arith), ne_eqb n number (λ e. omega arith))
 
 -- an entry that stands at the front
-module _ (n : ℕ) (rec t : List ℕ) (f : formed_told rec ≡ Accepted) where
+module _ (n : ℕ) (rec t : List ℕ) (f : formed_told rec ≡ Ok tt) where
   -- its length field has room for its length
   short : head_bytes + length rec < 65536
   short = omega (arith, job_size rec f)
@@ -110,7 +93,7 @@ module _ (n : ℕ) (rec t : List ℕ) (f : formed_told rec ≡ Accepted) where
       book_from 0 at low (entry_bytes n rec ++ t) ≡ book_from 0 (at + (head_bytes + length rec)) (n + 1) t
   book_front at low l =
       book_turn at _ _ _ _ (front_length n rec t short) (front_number n rec t short) low (front_good low l) ∙
-      book_pass (head_bytes + length rec - 1) (at + 1) (n + 1) behind ∙
+      book_drop (head_bytes + length rec - 1) (at + 1) (n + 1) behind ∙
       ap (λ (k : ℕ). book_from 0 k (n + 1) (drop (head_bytes + length rec - 1) behind)) (onward at) ∙
       ap (book_from 0 (at + (head_bytes + length rec)) (n + 1)) past
 
@@ -120,15 +103,15 @@ module _ (n : ℕ) (rec t : List ℕ) (f : formed_told rec ≡ Accepted) where
       place_from number 0 at (entry_bytes n rec ++ t) ≡ place_from number 0 (at + (head_bytes + length rec)) t
   place_above at number h =
       place_turn at _ _ _ _ (front_length n rec t short) (front_number n rec t short) number h ∙
-      place_pass number (head_bytes + length rec - 1) (at + 1) behind (omega (arith, length-append rec t)) ∙
+      place_drop number (head_bytes + length rec - 1) (at + 1) behind (omega (arith, length-append rec t)) ∙
       ap (λ (k : ℕ). place_from number 0 k (drop (head_bytes + length rec - 1) behind)) (onward at) ∙
       ap (place_from number 0 (at + (head_bytes + length rec))) past
 
   pub place_own :
       (at number : ℕ) → n ≡ number →
-      place_from number 0 at (entry_bytes n rec ++ t) ≡ record { at = at; size = head_bytes + length rec }
+      place_from number 0 at (entry_bytes n rec ++ t) ≡ Ok (record { at = at; size = head_bytes + length rec })
   place_own at number h = place_here at _ _ _ _ (front_length n rec t short) (front_number n rec t short) number h
 
   pub place_below :
-      (at number : ℕ) → number < n → place_from number 0 at (entry_bytes n rec ++ t) ≡ record { at = at; size = 0 }
+      (at number : ℕ) → number < n → place_from number 0 at (entry_bytes n rec ++ t) ≡ Err at
   place_below at number h = place_gone at _ _ _ _ (front_length n rec t short) (front_number n rec t short) number h

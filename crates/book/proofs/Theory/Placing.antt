@@ -8,7 +8,8 @@ use mathlib.Core.Path.{◌≡◌, refl, sym, ap, subst}
 use lib.Dec.{eqb, ltb}
 use lib.ListN.{length, length-append}
 use borrow.Author.Tests.{ltb-true, ltb-false, eqb-true, eqb-false}
-use Rattle.book.specs.Book.{head_bytes, place_from}
+use Rattle.std.specs.Prelude.{Result, Ok, Err}
+use Rattle.book.specs.Book.{head_bytes, place_from, place_at, place_size}
 use Rattle.book.specs.declared.Place.{Place}
 use Rattle.book.proofs.Theory.Entries.{Entry, entry_of, book_bytes, Rises, Has}
 use Rattle.book.proofs.Theory.Holding.{has_low}
@@ -26,13 +27,13 @@ Here number (e ∷ es) size =
     ((e.number ≡ number) × (size ≡ head_bytes + length e.job)) ⊎ ((number < e.number) × (size ≡ 0))
 
 -- a place among entries: those before it are below the number, and the first after them is not
-pub record Placed (number at : ℕ) (es : List Entry) (p : Place) : Type 0 where
+pub record Placed (number at : ℕ) (es : List Entry) (p : Result Place ℕ) : Type 0 where
   pub lo : List Entry
   pub hi : List Entry
   pub is : es ≡ lo ++ hi
   pub under : Below number lo
-  pub place : p.at ≡ at + length (book_bytes lo)
-  pub here : Here number hi p.size
+  pub place : place_at p ≡ at + length (book_bytes lo)
+  pub here : Here number hi (place_size p)
 
 -- the place that the search tells is that one
 pub placed :
@@ -43,8 +44,8 @@ placed number at low [] h =
 placed number at low (e ∷ es) (l, f, h) =
     go (ltb e.number number) (eqb e.number number) refl refl (placed number (at + (head_bytes + length e.job)) (e.number + 1) es h)
   where
-    stop : (size : ℕ) → Here number (e ∷ es) size → Placed number at (e ∷ es) (record { at = at; size = size })
-    stop size k = record { lo = []; hi = e ∷ es; is = refl; under = record {}; place = omega arith; here = k }
+    stop : (p : Result Place ℕ) → place_at p ≡ at → Here number (e ∷ es) (place_size p) → Placed number at (e ∷ es) p
+    stop p q k = record { lo = []; hi = e ∷ es; is = refl; under = record {}; place = omega (arith, q); here = k }
 
     go :
         (a b : Bool) → ltb e.number number ≡ a → eqb e.number number ≡ b →
@@ -52,7 +53,7 @@ placed number at low (e ∷ es) (l, f, h) =
         Placed number at (e ∷ es) (place_from number 0 at (entry_of e ++ book_bytes es))
     go true b p q r =
         let k = ltb-true e.number number p in
-        subst (λ (x : Place). Placed number at (e ∷ es) x)
+        subst (λ (x : Result Place ℕ). Placed number at (e ∷ es) x)
         (sym (place_above e.number e.job (book_bytes es) f at number k))
         (record {
           lo = e ∷ r.lo;
@@ -64,16 +65,16 @@ placed number at low (e ∷ es) (l, f, h) =
         })
     go false true p q r =
         let k = eqb-true e.number number q in
-        subst (λ (x : Place). Placed number at (e ∷ es) x)
+        subst (λ (x : Result Place ℕ). Placed number at (e ∷ es) x)
         (sym (place_own e.number e.job (book_bytes es) f at number k))
-        (stop (head_bytes + length e.job) (inl (k, refl)))
+        (stop (Ok (record { at = at; size = head_bytes + length e.job })) refl (inl (k, refl)))
     go false false p q r =
         let k = ltb-false e.number number p in
         let n = eqb-false e.number number q in
         let m : number < e.number = omega arith in
-        subst (λ (x : Place). Placed number at (e ∷ es) x)
+        subst (λ (x : Result Place ℕ). Placed number at (e ∷ es) x)
         (sym (place_below e.number e.job (book_bytes es) f at number m))
-        (stop 0 (inr (m, refl)))
+        (stop (Err at) refl (inr (m, refl)))
 
 -- a job stands in the first entries, or in those after them; and the other way
 pub has_append : (n : ℕ) (rec : List ℕ) (lo hi : List Entry) → Has n rec (lo ++ hi) → Has n rec lo ⊎ Has n rec hi

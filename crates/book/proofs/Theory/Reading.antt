@@ -1,4 +1,5 @@
 -- A book that is good is the bytes of its entries, and entries whose numbers rise make a good book.
+use Rattle.std.specs.Prelude.{Err, Ok}
 use Prim.Native.Nat.{ℕ, zero, suc, ◌+◌, ◌-◌, ◌*◌, ◌/◌, ◌%◌, ◌≤◌, ◌<◌}
 use native.Mathlib.Omega.{arith}
 use mathlib.Core.Bool.{Bool, true, false}
@@ -10,8 +11,7 @@ use lib.Seq.{length-take-le}
 use borrow.Author.Tests.{ltb-false}
 use Rattle.parts.specs.Pick.{pick, ◌or◌, ◌isnt◌}
 use Rattle.parts.specs.declared.Refusal.TheVariants.{Malformed}
-use Rattle.parts.specs.declared.Told.{Told}
-use Rattle.parts.specs.declared.Told.TheVariants.{Accepted, Refused}
+use Rattle.parts.specs.Told.{Told}
 use Rattle.parts.proofs.Order.{neither, not_isnt}
 use Rattle.records.specs.Bytes.{AllBytes, length_field, kind_field}
 use Rattle.book.specs.Formed.{formed_told}
@@ -21,7 +21,7 @@ use Rattle.book.proofs.Theory.Entries.{Entry, entry_of, book_bytes, Rises}
 use Rattle.book.proofs.Theory.Passing.{book_front}
 
 -- entries whose numbers rise make a good book
-pub rises_good : (at low : ℕ) (es : List Entry) → Rises low es → book_from 0 at low (book_bytes es) ≡ Accepted
+pub rises_good : (at low : ℕ) (es : List Entry) → Rises low es → book_from 0 at low (book_bytes es) ≡ Ok tt
 unfolding Rises book_bytes book_from
 rises_good at low [] h = refl
 rises_good at low (e ∷ es) (l, f, h) =
@@ -34,12 +34,12 @@ record Front (low : ℕ) (s : List ℕ) : Type 0 where
   rest : List ℕ
   is : s ≡ entry_of entry ++ rest
   above : low ≤ entry.number
-  formed : formed_told entry.job ≡ Accepted
+  formed : formed_told entry.job ≡ Ok tt
 
 -- what is not refused is accepted
-accepts : (t : Told) → refuses t ≡ false → t ≡ Accepted
-accepts Accepted h = refl
-accepts (Refused r) h = let z : ◌≡◌ {A = ℕ} 0 1 = cc in absurd (omega arith)
+accepts : (t : Told) → refuses t ≡ false → t ≡ Ok tt
+accepts (Ok _) h = refl
+accepts (Err r) h = let z : ◌≡◌ {A = ℕ} 0 1 = cc in absurd (omega arith)
 
 -- the first six bytes, and the others
 six_first :
@@ -101,12 +101,12 @@ front_of low s b h =
     }
 
 -- the first entry of a good book
-good_front : (at low b : ℕ) (s : List ℕ) → AllBytes (b ∷ s) → book_from 0 at low (b ∷ s) ≡ Accepted → Front low (b ∷ s)
+good_front : (at low b : ℕ) (s : List ℕ) → AllBytes (b ∷ s) → book_from 0 at low (b ∷ s) ≡ Ok tt → Front low (b ∷ s)
 unfolding book_from
 good_front at low b s h k = go (bad_entry low (b ∷ s)) _ refl k
   where
     go :
-        (q : Bool) (u : Told) → bad_entry low (b ∷ s) ≡ q → pick q (Refused (Malformed at)) u ≡ Accepted → Front low (b ∷ s)
+        (q : Bool) (u : Told) → bad_entry low (b ∷ s) ≡ q → pick q (Err (Malformed at)) u ≡ Ok tt → Front low (b ∷ s)
     go true u e f = let z : ◌≡◌ {A = ℕ} 0 1 = cc in absurd (omega arith)
     go false u e f = front_of low (b ∷ s) h e
 
@@ -129,8 +129,8 @@ bytes_before (x ∷ a) t h (suc k) = bytes_before a t (λ j. h (suc j)) k
 -- the first entry, where all shorter lists of bytes are read
 read_on :
     (at low : ℕ) (s : List ℕ) →
-    ((to next : ℕ) (t : List ℕ) → length t < length s → AllBytes t → book_from 0 to next t ≡ Accepted → Read next t) →
-    AllBytes s → book_from 0 at low s ≡ Accepted → Read low s
+    ((to next : ℕ) (t : List ℕ) → length t < length s → AllBytes t → book_from 0 to next t ≡ Ok tt → Read next t) →
+    AllBytes s → book_from 0 at low s ≡ Ok tt → Read low s
 unfolding book_bytes Rises
 read_on at low [] on b h = record { entries = []; are = refl; rise = record {} }
 read_on at low (x ∷ s) on b h =
@@ -149,10 +149,10 @@ read_on at low (x ∷ s) on b h =
     }
 
 -- and so by their length
-reads : (fuel at low : ℕ) (s : List ℕ) → length s ≤ fuel → AllBytes s → book_from 0 at low s ≡ Accepted → Read low s
+reads : (fuel at low : ℕ) (s : List ℕ) → length s ≤ fuel → AllBytes s → book_from 0 at low s ≡ Ok tt → Read low s
 reads zero at low s l b h = read_on at low s (λ to next t k c g. absurd (omega arith)) b h
 reads (suc fuel) at low s l b h = read_on at low s (λ to next t k c g. reads fuel to next t (omega arith) c g) b h
 
 -- the entries of a whole book
-pub read : (book : List ℕ) → AllBytes book → book_told book ≡ Accepted → Read 0 book
+pub read : (book : List ℕ) → AllBytes book → book_told book ≡ Ok tt → Read 0 book
 read book b h = reads (length book) 0 0 book (omega arith) b h

@@ -1,12 +1,8 @@
 -- What Codes.antt goes by and does not list itself: the library's symbols, the generated types and their cases.
-pub use Rattle.std.specs.Prelude.{ℕ, ◌+◌, ◌-◌, ◌*◌, ◌/◌, ◌%◌, ◌<◌, Bool, List, [], ◌∷◌, eqb, get_or}
+pub use Rattle.std.specs.Prelude.{ℕ, ◌+◌, ◌-◌, ◌*◌, ◌/◌, ◌%◌, ◌<◌, Bool, List, [], ◌∷◌, eqb, get_or, None, Option, Some}
 pub use Rattle.parts.specs.declared.Answer.TheVariants.{RanYes, RanNo, NotTaken, Worn}
 pub use Rattle.parts.specs.declared.Answer.{Answer}
 pub use Rattle.parts.specs.declared.Entry.{Entry}
-pub use Rattle.parts.specs.declared.Fill.TheVariants.{Empty, Filled}
-pub use Rattle.parts.specs.declared.Fill.{Fill}
-pub use Rattle.parts.specs.declared.Holder.{Holder}
-pub use Rattle.parts.specs.declared.Holder.TheVariants.{Free, By}
 pub use Rattle.parts.specs.declared.Instr.{Instr}
 pub use Rattle.parts.specs.declared.LockWord.{LockWord}
 pub use Rattle.parts.specs.declared.Reading.{Reading}

@@ -1,4 +1,5 @@
 -- Demand 3: what is promised holds at every cut of every history, by the theory's invariant there.
+use Rattle.std.specs.Prelude.{Err, None, Ok, Some}
 use Prim.Native.Nat.{ℕ, zero, suc, ◌+◌, ◌≤◌, ◌<◌}
 use native.Mathlib.Omega.{arith}
 use mathlib.Core.Path.{◌≡◌, refl, sym, ap, ◌∙◌, subst}
@@ -10,9 +11,7 @@ use Rattle.parts.specs.Numbers.{workers, instructions, try_steps}
 use Rattle.parts.specs.Pick.{pick}
 use Rattle.parts.specs.declared.Answer.{Answer}
 use Rattle.parts.specs.declared.Answer.TheVariants.{RanYes, RanNo, NotTaken, Worn}
-use Rattle.parts.specs.declared.Holder.TheVariants.{Free, By}
-use Rattle.parts.specs.declared.Told.{Told}
-use Rattle.parts.specs.declared.Told.TheVariants.{Accepted, Refused}
+use Rattle.parts.specs.Told.{Told}
 use Rattle.alone.specs.Jobs.{Try, times}
 use Rattle.steps.specs.Worker as steps
 use Rattle.steps.specs.declared.Point.{Point}
@@ -21,8 +20,7 @@ use Rattle.steps.specs.declared.State.TheVariants.{UnderWay, Finished}
 use Rattle.steps.specs.declared.Worker.{Worker}
 use Rattle.engine.specs.State.{worker_at, lock_at, lock_count}
 use Rattle.engine.specs.Calls.{setup_of, collect_told, last_answer, collect_of}
-use Rattle.engine.specs.declared.CollectTold.{CollectTold}
-use Rattle.engine.specs.declared.Collected.{Collected}
+use Rattle.engine.specs.Calls.{Collected}
 use Rattle.engine.specs.declared.Engine.{Engine}
 use Rattle.helping.specs.Machine.{Scene, machine_moved}
 use Rattle.helping.specs.Ok.{NotIdle, LockOk, StateOk, view_of, Named, AnswerOk, Listed, Says}
@@ -42,6 +40,8 @@ use Rattle.histories.proofs.Simulation.Counted.{stepped_worker}
 use Rattle.histories.proofs.Simulation.Standing.{Standing, guarded, standing_past, state_follow, over_follow}
 use Rattle.histories.proofs.Demand.Listed.{listed_past}
 use Rattle.histories.proofs.Demand.Turns.{turn_past}
+use Rattle.engine.specs.declared.Answered.{Answered}
+use Rattle.engine.specs.Calls.{answered}
 
 -- what collect tells is the worker's answer, its number of steps and what it filled
 pub record Tells (k : Worker) (a : Answer) (n m : ℕ) : Type 0 where
@@ -49,21 +49,25 @@ pub record Tells (k : Worker) (a : Answer) (n m : ℕ) : Type 0 where
   pub steps : n ≡ k.steps
   pub filled : m ≡ k.filled
 
-pub tells : (e : Engine) (w : ℕ) (a : Answer) (n m : ℕ) → (collect_of e w).told ≡ CollectTold.Answered a n m → Tells (worker_at e w) a n m
+pub tells : (e : Engine) (w : ℕ) (a : Answer) (n m : ℕ) → (collect_of e w).told ≡ Ok (answered a n m) → Tells (worker_at e w) a n m
 tells e w a n m h = go (collect_told e w) refl
   where
     go : (t : Told) → collect_told e w ≡ t → Tells (worker_at e w) a n m
-    go Accepted q =
+    go (Ok _) q =
         let end = finished_of (worker_at e w) (one_of w (steps.collect_by_state (worker_at e w)) q).1 in
-        let same : CollectTold.Answered (last_answer (worker_at e w)) (worker_at e w).steps (worker_at e w).filled ≡ CollectTold.Answered a n m =
-        sym (ap (λ (o : Collected). o.told) (collect_told_lem e w Accepted q)) ∙ h in
+        let same : Ok (answered (last_answer (worker_at e w)) (worker_at e w).steps (worker_at e w).filled) ≡ Ok (answered a n m) =
+        sym (ap (λ (o : Collected). o.told) (collect_told_lem e w (Ok tt) q)) ∙ h in
         let last : last_answer (worker_at e w) ≡ end.0 =
         ap (λ (s : State). steps.on_state s NotTaken (λ p. NotTaken) (λ x. x)) end.1 in
-        let told : last_answer (worker_at e w) ≡ a = cc in
-        record { state = end.1 ∙ ap Finished (sym last ∙ told); steps = cc; filled = cc }
-    go (Refused r) q =
-        let same : CollectTold.Refused r ≡ CollectTold.Answered a n m =
-        sym (ap (λ (o : Collected). o.told) (collect_told_lem e w (Refused r) q)) ∙ h in
+        let parts : answered (last_answer (worker_at e w)) (worker_at e w).steps (worker_at e w).filled ≡ answered a n m = cc in
+        record {
+          state = end.1 ∙ ap Finished (sym last ∙ ap (λ (y : Answered). y.answer) parts);
+          steps = sym (ap (λ (y : Answered). y.steps) parts);
+          filled = sym (ap (λ (y : Answered). y.filled) parts);
+        }
+    go (Err r) q =
+        let same : Err r ≡ Ok (answered a n m) =
+        sym (ap (λ (o : Collected). o.told) (collect_told_lem e w (Err r) q)) ∙ h in
         let z : ◌≡◌ {A = ℕ} 0 1 = cc in
         absurd (omega arith)
 
@@ -81,14 +85,14 @@ listed_once t earlier = rw (eq-eqb t.number t.number refl) (omega arith)
 
 -- at the end of a history
 module _ (e₀ : Engine) (u₀ : Under (rules_of e₀) e₀) (x : Sofar) (s : Standing (rules_of e₀) x) where
-  free_words : (l : ℕ) → (lock_at x.state l).holder ≡ Free → Hold e₀ x.state l (given e₀ x (x.won l))
+  free_words : (l : ℕ) → (lock_at x.state l).holder ≡ None → Hold e₀ x.state l (given e₀ x (x.won l))
   free_words l h q g =
       let o =
       subst (LockOk (rules_of e₀) (scene_of x.state).word (tale_of x) s.next.st l (lock_at x.state l).turn) h
       (s.next.ok.lock l) in
       o.values q (guarded (rules_of e₀) e₀ u₀ l q g)
 
-  held_words : (l h : ℕ) → (lock_at x.state l).holder ≡ By h → HeldWords e₀ x l h
+  held_words : (l h : ℕ) → (lock_at x.state l).holder ≡ Some h → HeldWords e₀ x l h
   held_words l h e =
       let part = held_part (rules_of e₀) (scene_of x.state) (tale_of x) s.next.st s.next.ok l h e in
       record {
@@ -126,7 +130,7 @@ module _ (e₀ : Engine) (u₀ : Under (rules_of e₀) e₀) (x : Sofar) (s : St
 
   -- of a worker that has finished with this answer: its try, its steps
   tried :
-      (w : ℕ) (a : Answer) (n m : ℕ) → (collect_of x.state w).told ≡ CollectTold.Answered a n m →
+      (w : ℕ) (a : Answer) (n m : ℕ) → (collect_of x.state w).told ≡ Ok (answered a n m) →
       AnswerOk (rules_of e₀) (tale_of x) (x.tries w) a
   tried w a n m h =
       let t = tells x.state w a n m h in
@@ -135,7 +139,7 @@ module _ (e₀ : Engine) (u₀ : Under (rules_of e₀) e₀) (x : Sofar) (s : St
       t.state (s.next.ok.named w)).1
 
   ran_told_lem :
-      (w n m : ℕ) (said : Bool) → (collect_of x.state w).told ≡ CollectTold.Answered (pick said RanYes RanNo) n m →
+      (w n m : ℕ) (said : Bool) → (collect_of x.state w).told ≡ Ok (answered (pick said RanYes RanNo) n m) →
       RanOnce e₀ x (x.tries w) said
   ran_told_lem w n m true h = ran_once w true (tried w RanYes n m h)
   ran_told_lem w n m false h = ran_once w false (tried w RanNo n m h)
@@ -148,7 +152,7 @@ module _ (e₀ : Engine) (u₀ : Under (rules_of e₀) e₀) (x : Sofar) (s : St
       (s.next.ok.worker w)
 
   counts :
-      (w : ℕ) (a : Answer) (n m : ℕ) → (collect_of x.state w).told ≡ CollectTold.Answered a n m →
+      (w : ℕ) (a : Answer) (n m : ℕ) → (collect_of x.state w).told ≡ Ok (answered a n m) →
       (n ≡ x.steps w) × (n ≤ try_steps instructions)
   counts w a n m h =
       let t = tells x.state w a n m h in
@@ -215,15 +219,15 @@ demand_3 p =
     s = standing_past p
 
     soon :
-        (w h : ℕ) → ((sofar p).found w).holder ≡ By h → (t : State) → (worker_at (sofar p).state w).state ≡ t →
-        Soon instructions t ((sofar p).steps w) (By h)
+        (w h : ℕ) → ((sofar p).found w).holder ≡ Some h → (t : State) → (worker_at (sofar p).state w).state ≡ t →
+        Soon instructions t ((sofar p).steps w) (Some h)
     soon w h f t e =
-        subst (λ (t : State). Soon instructions t ((sofar p).steps w) (By h)) e
+        subst (λ (t : State). Soon instructions t ((sofar p).steps w) (Some h)) e
         (subst (Soon instructions (worker_at (sofar p).state w).state ((sofar p).steps w)) f (soon_past p w))
 
     sooner :
-        (w h : ℕ) → ((sofar p).found w).holder ≡ By h → (a : Answer) (n m : ℕ) →
-        (collect_of (sofar p).state w).told ≡ CollectTold.Answered a n m → n ≤ 193
+        (w h : ℕ) → ((sofar p).found w).holder ≡ Some h → (a : Answer) (n m : ℕ) →
+        (collect_of (sofar p).state w).told ≡ Ok (answered a n m) → n ≤ 193
     sooner w h f a n m e =
         let t = tells (sofar p).state w a n m e in
         omega (arith, (counts (setup_of p.setup).engine (under_start p.setup p.setup_bytes) (sofar p) (standing_past p) w a n m e).0, soon w h f (Finished a) t.state)

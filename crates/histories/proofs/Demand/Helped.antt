@@ -1,5 +1,7 @@
 -- "any worker that then begins a valid job there and is stepped alone completes the last one within 97 steps": a begin on a held lock is
 -- accepted of every idle worker with every valid job, and the steps after it are those of the theory's lone helper.
+use Rattle.parts.specs.Told.{Told}
+use Rattle.std.specs.Prelude.{Err, Ok, Some}
 use Prim.Native.Nat.{ℕ, zero, suc, ◌<◌}
 use mathlib.Core.Path.{◌≡◌, refl, sym, ap, ◌∙◌, subst}
 use mathlib.Core.Bool.{false}
@@ -7,11 +9,9 @@ use mathlib.Core.List.{List, ◌∷◌}
 use borrow.Author.Tests.{lt-leb, eq-eqb}
 use Rattle.parts.specs.Numbers.{workers, instructions, help_steps}
 use Rattle.parts.specs.Parts.{worn_of}
-use Rattle.parts.specs.declared.Holder.TheVariants.{By}
 use Rattle.parts.specs.declared.Instr.{Instr}
 use Rattle.parts.specs.declared.LockWord.{LockWord}
 use Rattle.parts.specs.declared.Refusal.TheVariants.{NotCollected, WorkerIdle}
-use Rattle.parts.specs.declared.Told.TheVariants.{Accepted, Refused}
 use Rattle.arrays.specs.Fresh.{guards_of}
 use Rattle.records.specs.Bytes.{AllBytes}
 use Rattle.records.specs.Job.{job_of, job_told}
@@ -47,21 +47,21 @@ told_by_lem e w h = rw (lt-leb workers w h)
 
 pub told_in :
     (e : Engine) (w : ℕ) → w < workers → (t : State) → (worker_at e w).state ≡ t →
-    step_told e w ≡ steps.on_state t (Refused WorkerIdle) (λ p. Accepted) (λ y. Refused NotCollected)
+    step_told e w ≡ steps.on_state {A = Told} t (Err WorkerIdle) (λ p. Ok tt) (λ y. Err NotCollected)
 unfolding steps.step_by_state
 told_in e w h t q =
-    told_by_lem e w h ∙ ap (λ (t : State). steps.on_state t (Refused WorkerIdle) (λ p. Accepted) (λ y. Refused NotCollected)) q
+    told_by_lem e w h ∙ ap (λ (t : State). steps.on_state {A = Told} t (Err WorkerIdle) (λ p. Ok tt) (λ y. Err NotCollected)) q
 
 -- one that is under way may step, and its step is the machine's
 pub step_accepted :
-    (e : Engine) (w : ℕ) (p : Point) → w < workers → (worker_at e w).state ≡ UnderWay p → (step_of e w).told ≡ Accepted
-step_accepted e w p h q = ap (λ (o : Outcome). o.told) (step_told_lem e w Accepted (told_in e w h (UnderWay p) q))
+    (e : Engine) (w : ℕ) (p : Point) → w < workers → (worker_at e w).state ≡ UnderWay p → (step_of e w).told ≡ Ok tt
+step_accepted e w p h q = ap (λ (o : Outcome). o.told) (step_told_lem e w (Ok tt) (told_in e w h (UnderWay p) q))
 
 pub step_scene :
     (K : Rules) (x : Sofar) → Standing K x → (w : ℕ) (p : Point) → w < workers → (worker_at x.state w).state ≡ UnderWay p →
     scene_of (step_of x.state w).engine ≡ step_at K (scene_of x.state) w ((scene_of x.state).worker w) p
 step_scene K x s w p h q =
-    ap (λ (o : Outcome). scene_of o.engine) (step_told_lem x.state w Accepted (told_in x.state w h (UnderWay p) q)) ∙
+    ap (λ (o : Outcome). scene_of o.engine) (step_told_lem x.state w (Ok tt) (told_in x.state w h (UnderWay p) q)) ∙
     ap (λ (t : State). scene_of (steps.on_state t x.state (λ p. stepped_of x.state w p) (λ y. x.state))) q ∙
     step_is K x.state s.good s.under (ranged K _ _ s.next.st s.next.ok) w p h q
 
@@ -76,11 +76,11 @@ onward_is K x s w h = go (worker_at x.state w).state refl
         (t : State) → (worker_at x.state w).state ≡ t →
         scene_of (step_of x.state w).engine ≡ onward K w (scene_of x.state) t
     go Idle q =
-        ap (λ (o : Outcome). scene_of o.engine) (step_told_lem x.state w (Refused WorkerIdle) (told_in x.state w h Idle q))
+        ap (λ (o : Outcome). scene_of o.engine) (step_told_lem x.state w (Err WorkerIdle) (told_in x.state w h Idle q))
     go (UnderWay p) q = step_scene K x s w p h q
     go (Finished a) q =
         ap (λ (o : Outcome). scene_of o.engine)
-        (step_told_lem x.state w (Refused NotCollected) (told_in x.state w h (Finished a) q))
+        (step_told_lem x.state w (Err NotCollected) (told_in x.state w h (Finished a) q))
 
 -- n steps of a worker are the machine's n lone steps
 alone_is :
@@ -96,15 +96,15 @@ alone_is K x s w h (suc n) =
 pub may_begin :
     (x : Sofar) (w l : ℕ) (rec : List ℕ) → l < lock_count x.state →
     worn_of (lock_at x.state l) ≡ false → w < workers → (worker_at x.state w).state ≡ Idle →
-    job_told rec l (guards_of (words_of x.state)) ≡ Accepted → Begins x.state w l rec
+    job_told rec l (guards_of (words_of x.state)) ≡ Ok tt → Begins x.state w l rec
 unfolding steps.begin_by_state
 may_begin x w l rec b h k i j = record { worker = k; idle = rw i; lock = b; job = j; worn = h }
 
-held_not_worn : (x : LockWord) (s : ℕ) → x.holder ≡ By s → worn_of x ≡ false
+held_not_worn : (x : LockWord) (s : ℕ) → x.holder ≡ Some s → worn_of x ≡ false
 unfolding worn_of
 held_not_worn x s h = rw h
 
-pub told_accepted : (e : Engine) (w l : ℕ) (rec : List ℕ) → Begins e w l rec → begin_told e w l rec ≡ Accepted
+pub told_accepted : (e : Engine) (w l : ℕ) (rec : List ℕ) → Begins e w l rec → begin_told e w l rec ≡ Ok tt
 unfolding begin_told
 told_accepted e w l rec b =
     rw
@@ -117,7 +117,7 @@ pub helped_is :
     alone_steps K w n (machine_begun (scene_of x.state) w l (job_of rec) (free_sheet x.state))
 unfolding follow after AllRecords
 helped_is K x s w l rec b t n =
-    let told = begin_told_lem x.state w l rec Accepted (told_accepted x.state w l rec t) in
+    let told = begin_told_lem x.state w l rec (Ok tt) (told_accepted x.state w l rec t) in
     alone_is K (then_of x (Begin w l rec)) (standing_then K x (Begin w l rec) s (b, tt)) w t.worker n ∙
     ap (alone_steps K w n)
     (ap scene_of (state_then x (Begin w l rec)) ∙ ap (λ (o : Outcome). scene_of o.engine) told ∙ begin_is x.state s.good w l rec t)
@@ -127,8 +127,8 @@ looking : (E : Scene) (w l : ℕ) (code : List Instr) (s : ℕ) → (machine_beg
 looking E w l code s = rw (eq-eqb w w refl)
 
 pub completed :
-    (e₀ : Engine) → Under (rules_of e₀) e₀ → (x : Sofar) → Standing (rules_of e₀) x → (w l h : ℕ) (rec : List ℕ) → l < lock_count x.state → (lock_at x.state l).holder ≡ By h → w < workers →
-    (worker_at x.state w).state ≡ Idle → AllBytes rec → job_told rec l (guards_of (words_of x.state)) ≡ Accepted →
+    (e₀ : Engine) → Under (rules_of e₀) e₀ → (x : Sofar) → Standing (rules_of e₀) x → (w l h : ℕ) (rec : List ℕ) → l < lock_count x.state → (lock_at x.state l).holder ≡ Some h → w < workers →
+    (worker_at x.state w).state ≡ Idle → AllBytes rec → job_told rec l (guards_of (words_of x.state)) ≡ Ok tt →
     history.Completed e₀ x w l rec
 completed e₀ u₀ x s w l h rec below held seat idle bytes job =
     let K = rules_of e₀ in
@@ -153,7 +153,7 @@ completed e₀ u₀ x s w l h rec below held seat idle bytes job =
     let here = helped_is K x s w l rec bytes b (help_steps instructions) in
     let there = subst (λ (F : Scene). Completed K F T w l (lock_at x.state l).turn) (sym here) at in
     record {
-      begun = ap (λ (o : Outcome). o.told) (begin_told_lem x.state w l rec Accepted (told_accepted x.state w l rec b));
+      begun = ap (λ (o : Outcome). o.told) (begin_told_lem x.state w l rec (Ok tt) (told_accepted x.state w l rec b));
       answer = there.answer;
       lock = there.lock;
       words = λ q g. there.words q (guarded K e₀ u₀ l q g);

@@ -1,4 +1,5 @@
 -- "one that helps from step 1 at most 97", 193 since request 04: what every call keeps of a try whose Look found its lock held.
+use Rattle.std.specs.Prelude.{None, Option, Some}
 use Prim.Native.Nat.{ℕ, suc, ◌+◌, ◌≤◌, ◌<◌}
 use mathlib.Core.Bool.{Bool, true, false}
 use mathlib.Core.List.{List}
@@ -7,10 +8,8 @@ use native.Mathlib.Omega.{arith}
 use lib.Dec.{eqb}
 use Rattle.parts.specs.Numbers.{workers, instructions, help_steps}
 use Rattle.parts.specs.Parts.{lock0}
-use Rattle.parts.specs.Pick.{pick, on_holder}
+use Rattle.parts.specs.Pick.{pick, on_option}
 use Rattle.parts.specs.declared.Answer.TheVariants.{Worn}
-use Rattle.parts.specs.declared.Holder.{Holder}
-use Rattle.parts.specs.declared.Holder.TheVariants.{Free, By}
 use Rattle.parts.specs.declared.LockWord.{LockWord}
 use Rattle.steps.specs.Try.{start_of, answer_of, effect_of}
 use Rattle.steps.specs.Worker.{worker0, looking_of}
@@ -46,18 +45,18 @@ use Rattle.histories.proofs.Simulation.Pieces.{found_first, found_later, worker_
 use Rattle.histories.proofs.Simulation.Standing.{Standing}
 
 -- where the Look found a holder
-abbrev IfHeld : Holder → Type 0 → Type 0
-IfHeld Free P = Unit {0}
-IfHeld (By s) P = P
+abbrev IfHeld : Option ℕ → Type 0 → Type 0
+IfHeld None P = Unit {0}
+IfHeld (Some s) P = P
 
 -- of a worker in this state, after so many steps of its try, whose Look found this holder: a try that found one is in a run from its first
 -- step on, and has at most so many steps left
-abbrev pub Soon : ℕ → State → ℕ → Holder → Type 0
+abbrev pub Soon : ℕ → State → ℕ → Option ℕ → Type 0
 Soon most Idle n found = Unit {0}
 Soon most (UnderWay Look) n found = n ≡ 0
-Soon most (UnderWay (Grab seen)) n found = (1 ≤ n) × (found ≡ Free)
-Soon most (UnderWay (LookAgain won)) n found = (1 ≤ n) × (found ≡ Free)
-Soon most (UnderWay (ReadMark seen won)) n found = (1 ≤ n) × (found ≡ Free)
+Soon most (UnderWay (Grab seen)) n found = (1 ≤ n) × (found ≡ None)
+Soon most (UnderWay (LookAgain won)) n found = (1 ≤ n) × (found ≡ None)
+Soon most (UnderWay (ReadMark seen won)) n found = (1 ≤ n) × (found ≡ None)
 Soon most (UnderWay (Point.Run r at)) n found = (1 ≤ n) × IfHeld found (n + left_at most r at ≤ help_steps most)
 Soon most (Finished a) n found = IfHeld found (n ≤ help_steps most)
 
@@ -123,14 +122,14 @@ module _ (K : Rules) (x : Sofar) (s : Standing K x) (t : AllSoon K x) (w : ℕ) 
       l = lock_at e k.lock
 
       go :
-          (f : Holder) →
+          (f : Option ℕ) →
           Soon K.most
-          (on_holder f (pick (eqb l.turn K.last) (Finished Worn) (UnderWay (Grab l.turn)))
+          (on_option f (pick (eqb l.turn K.last) (Finished Worn) (UnderWay (Grab l.turn)))
           (λ s. UnderWay (Point.Run (start_of s l.turn) Read)))
           (suc n) f
-      go Free =
-          pick_all (λ (y : State). Soon K.most y (suc n) Free) (eqb l.turn K.last) _ _ tt (omega arith, refl)
-      go (By s) = (omega arith, omega arith)
+      go None =
+          pick_all (λ (y : State). Soon K.most y (suc n) None) (eqb l.turn K.last) _ _ tt (omega arith, refl)
+      go (Some s) = (omega arith, omega arith)
 
   abbrev Here : Point → Type 0
   Here r = Soon K.most (UnderWay r) n (x.found w).holder → Now ((step_at K E w k r).worker w).state
@@ -139,13 +138,13 @@ module _ (K : Rules) (x : Sofar) (s : Standing K x) (t : AllSoon K x) (w : ℕ) 
   later : (y : State) → 1 ≤ n → Soon K.most y (suc n) (x.found w).holder → Now y
   later y z g = subst (λ (f : LockWord). Soon K.most y (suc n) f.holder) (sym (found_later x w z)) g
 
-  if_less : (f : Holder) (a b : ℕ) → a < b → IfHeld f (n + b ≤ help_steps K.most) → IfHeld f (suc n + a ≤ help_steps K.most)
-  if_less Free a b c g = tt
-  if_less (By s) a b c g = omega arith
+  if_less : (f : Option ℕ) (a b : ℕ) → a < b → IfHeld f (n + b ≤ help_steps K.most) → IfHeld f (suc n + a ≤ help_steps K.most)
+  if_less None a b c g = tt
+  if_less (Some s) a b c g = omega arith
 
-  if_last : (f : Holder) → IfHeld f (n + 1 ≤ help_steps K.most) → IfHeld f (suc n ≤ help_steps K.most)
-  if_last Free g = tt
-  if_last (By s) g = omega arith
+  if_last : (f : Option ℕ) → IfHeld f (n + 1 ≤ help_steps K.most) → IfHeld f (suc n ≤ help_steps K.most)
+  if_last None g = tt
+  if_last (Some s) g = omega arith
 
   -- the worker after the step is at the point that the machine leads to
   at : (y : State) → (put E.worker w (machine_moved k y) w).state ≡ y
@@ -163,7 +162,7 @@ module _ (K : Rules) (x : Sofar) (s : Standing K x) (t : AllSoon K x) (w : ℕ) 
       (later (on r a) y.0
       (omega arith, if_less (x.found w).holder _ _ (run_falls K E (tale_of x) s.next.st s.next.ok w r a z g) y.1))
 
-  mark_soon : (seen : LockWord) (won : ℕ) → (x.found w).holder ≡ Free → Soon K.most (mark_to (E.done k.own) seen won k.own) (suc n) (x.found w).holder
+  mark_soon : (seen : LockWord) (won : ℕ) → (x.found w).holder ≡ None → Soon K.most (mark_to (E.done k.own) seen won k.own) (suc n) (x.found w).holder
   unfolding mark_to
   mark_soon seen won z =
       subst (Soon K.most (mark_to (E.done k.own) seen won k.own) (suc n)) (sym z)
@@ -171,7 +170,7 @@ module _ (K : Rules) (x : Sofar) (s : Standing K x) (t : AllSoon K x) (w : ℕ) 
       (holder_each P seen.holder _ _ tt (λ s. pick_all P (eqb s k.own) _ _ (omega arith, tt) (omega arith, tt))))
     where
       P : State → Type 0
-      P y = Soon K.most y (suc n) Free
+      P y = Soon K.most y (suc n) None
 
   here : (r : Point) → (worker_at e w).state ≡ UnderWay r → Here r
   unfolding step_at mark_to
@@ -214,7 +213,7 @@ module _ (K : Rules) (x : Sofar) (s : Standing K x) (t : AllSoon K x) (w : ℕ) 
       go false = t v
 
 -- so it is under way for fewer steps
-pub soon_under : (most n s : ℕ) (p : Point) → Soon most (UnderWay p) n (By s) → n < help_steps most
+pub soon_under : (most n s : ℕ) (p : Point) → Soon most (UnderWay p) n (Some s) → n < help_steps most
 soon_under most n s Look y = omega arith
 soon_under most n s (Grab seen) y = let z : ◌≡◌ {A = ℕ} 0 1 = (let f = y.1 in cc) in absurd (omega arith)
 soon_under most n s (LookAgain won) y = let z : ◌≡◌ {A = ℕ} 0 1 = (let f = y.1 in cc) in absurd (omega arith)
@@ -228,4 +227,4 @@ pub soon_past : (p : Past) → AllSoon (rules_of (setup_of p.setup).engine) (sof
 soon_past p =
     past_keeps (AllSoon (rules_of (setup_of p.setup).engine)) p (soons (rules_of (setup_of p.setup).engine))
     (λ w.
-    subst (λ (y : State). Soon instructions y 0 Free) (sym (ap (λ (k : Worker). k.state) ((fresh_is p.setup p.setup_bytes).idle w))) tt)
+    subst (λ (y : State). Soon instructions y 0 None) (sym (ap (λ (k : Worker). k.state) ((fresh_is p.setup p.setup_bytes).idle w))) tt)

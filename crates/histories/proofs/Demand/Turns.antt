@@ -1,4 +1,5 @@
 -- A lock's turn is its starting turn and one for each try that won it.
+use Rattle.std.specs.Prelude.{None, Option, Some}
 use Prim.Native.Nat.{ℕ, suc, ◌+◌}
 use native.Mathlib.Omega.{arith}
 use mathlib.Core.Path.{◌≡◌, refl, sym, ap, ◌∙◌}
@@ -7,9 +8,7 @@ use mathlib.Core.List.{List, ◌∷◌}
 use lib.Dec.{eqb}
 use lib.ListN.{length}
 use borrow.Author.Tests.{eqb-true}
-use Rattle.parts.specs.Pick.{pick, on_holder}
-use Rattle.parts.specs.declared.Holder.{Holder}
-use Rattle.parts.specs.declared.Holder.TheVariants.{Free, By}
+use Rattle.parts.specs.Pick.{pick, on_option}
 use Rattle.parts.specs.declared.LockWord.{LockWord}
 use Rattle.alone.specs.Jobs.{Try}
 use Rattle.steps.specs.declared.Point.{Point}
@@ -53,29 +52,29 @@ turned_grab from E T i k seen own h l = go (E.lock k).holder (eqb (E.lock k).tur
     same l = put_case E.lock k (E.lock k) (λ (y : LockWord). y.turn ≡ from l + length (T.won l)) l (λ e. ap (λ (m : ℕ). (E.lock m).turn) (sym e) ∙ h l) (λ n. h l)
 
     go :
-        (o : Holder) (b : Bool) → eqb (E.lock k).turn seen ≡ b →
-        (put E.lock k (on_holder o (pick b (record { turn = suc seen; holder = By own }) (E.lock k)) (λ s. E.lock k)) l).turn ≡
-        from l + length ((on_holder o (pick b (win_tale T i k) T) (λ s. T)).won l)
-    go Free true e =
-        turned_put from E.lock T.won k (record { turn = suc seen; holder = By own }) (T.tries i ∷ T.won k) h
+        (o : Option ℕ) (b : Bool) → eqb (E.lock k).turn seen ≡ b →
+        (put E.lock k (on_option o (pick b (record { turn = suc seen; holder = Some own }) (E.lock k)) (λ s. E.lock k)) l).turn ≡
+        from l + length ((on_option o (pick b (win_tale T i k) T) (λ s. T)).won l)
+    go None true e =
+        turned_put from E.lock T.won k (record { turn = suc seen; holder = Some own }) (T.tries i ∷ T.won k) h
         (omega (arith, eqb-true (E.lock k).turn seen e, h k)) l
-    go Free false e = same l
-    go (By s) b e = same l
+    go None false e = same l
+    go (Some s) b e = same l
 
 release_turn : (l : LockWord) (won s : ℕ) → (machine_release l won s).turn ≡ l.turn
 unfolding machine_release
 release_turn l won s = go l.holder
   where
-    pass : (b c : Bool) → (pick b (pick c (record { turn = l.turn; holder = Free }) l) l).turn ≡ l.turn
+    pass : (b c : Bool) → (pick b (pick c (record { turn = l.turn; holder = None }) l) l).turn ≡ l.turn
     pass true true = refl
     pass true false = refl
     pass false c = refl
 
     go :
-        (h : Holder) →
-        (on_holder h l (λ t. pick (eqb t s) (pick (eqb l.turn won) (record { turn = l.turn; holder = Free }) l) l)).turn ≡ l.turn
-    go Free = refl
-    go (By t) = pass (eqb t s) (eqb l.turn won)
+        (h : Option ℕ) →
+        (on_option h l (λ t. pick (eqb t s) (pick (eqb l.turn won) (record { turn = l.turn; holder = None }) l) l)).turn ≡ l.turn
+    go None = refl
+    go (Some t) = pass (eqb t s) (eqb l.turn won)
 
 turned_step :
     (K : Rules) (from : ℕ → ℕ) (E : Scene) (T : Tale) (i : ℕ) (k : Worker) (p : Point) → Turned from E T →

@@ -1,4 +1,5 @@
 -- A worker made idle, and an accepted begin, keep it.
+use Rattle.std.specs.Prelude.{Some}
 use Prim.Native.Nat.{ℕ, suc, ◌<◌, ◌≤◌}
 use mathlib.Core.Bool.{Bool, true, false}
 use mathlib.Core.List.{List, ◌∷◌}
@@ -9,7 +10,6 @@ use lib.Dec.{eqb}
 use lib.ListN.{length}
 use Rattle.parts.specs.Numbers.{workers}
 use Rattle.parts.specs.Pick.{pick}
-use Rattle.parts.specs.declared.Holder.TheVariants.{By}
 use Rattle.steps.specs.Places.{helped_of}
 use Rattle.steps.specs.Worker.{worker0, looking_of}
 use Rattle.steps.specs.declared.State.{State}
@@ -115,12 +115,12 @@ module _ (x : Sofar) (g : Good x.state) (w l : ℕ) (rec : List ℕ) (b : Begins
       }
 
   -- the sheet that is taken is none that a worker under way helps
-  other : (v s : ℕ) → Under (worker_at e v).state → helped_in (worker_at e v).state ≡ By s → s ≡ s₀ → ⊥
+  other : (v s : ℕ) → Under (worker_at e v).state → helped_in (worker_at e v).state ≡ Some s → s ≡ s₀ → ⊥
   other v s u h n = go (worker_at e v).state refl u h
     where
-      go : (q : State) → (worker_at e v).state ≡ q → Under q → helped_in q ≡ By s → ⊥
+      go : (q : State) → (worker_at e v).state ≡ q → Under q → helped_in q ≡ Some s → ⊥
       go Idle z u h = u
-      go (UnderWay p) z u h = (free_unused e g w l rec b).helped v p z (h ∙ ap By n)
+      go (UnderWay p) z u h = (free_unused e g w l rec b).helped v p z (h ∙ ap Some n)
       go (Finished y) z u h = u
 
   hand_at :

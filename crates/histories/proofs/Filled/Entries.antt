@@ -1,4 +1,5 @@
 -- One entry put into the array of entries: what was filled by that, and the filled entries of each sheet; and a log that is emptied.
+use Rattle.std.specs.Prelude.{None, Option, Some}
 use Prim.Native.Nat.{ℕ, zero, suc, ◌+◌, ◌<◌}
 use mathlib.Core.Bool.{Bool, true, false}
 use mathlib.Core.List.{List, [], ◌∷◌}
@@ -11,10 +12,8 @@ use lib.Seq.{get_or-set_same, get_or-set_other}
 use Rattle.parts.specs.Lay.{lay}
 use Rattle.parts.specs.Numbers.{sheets, instructions, entries}
 use Rattle.parts.specs.Parts.{entry0}
-use Rattle.parts.specs.Pick.{pick, on_fill}
+use Rattle.parts.specs.Pick.{pick, on_option}
 use Rattle.parts.specs.declared.Entry.{Entry}
-use Rattle.parts.specs.declared.Fill.{Fill}
-use Rattle.parts.specs.declared.Fill.TheVariants.{Empty, Filled}
 use Rattle.parts.specs.declared.Reading.{Reading}
 use Rattle.engine.specs.State.{base_of}
 use Rattle.helping.specs.Machine.{put}
@@ -23,9 +22,9 @@ use Rattle.histories.specs.Filling.{Filling, new_from}
 use Rattle.histories.proofs.Map.Put.{logs_of, lay_log_lem}
 
 module _ (make : ℕ → Reading → Filling) where
-  same_fill : (f : Fill) (rest : List Filling) (n : ℕ) → on_fill f (on_fill f rest (λ what. make n what ∷ rest)) (λ first. rest) ≡ rest
-  same_fill Empty rest n = refl
-  same_fill (Filled r) rest n = refl
+  same_fill : (f : Option Reading) (rest : List Filling) (n : ℕ) → on_option f (on_option f rest (λ what. make n what ∷ rest)) (λ first. rest) ≡ rest
+  same_fill None rest n = refl
+  same_fill (Some r) rest n = refl
 
   new_none : (n : ℕ) (l : List Entry) → new_from make n l l ≡ []
   unfolding new_from
@@ -33,8 +32,8 @@ module _ (make : ℕ → Reading → Filling) where
   new_none n (x ∷ l) = same_fill x.fill (new_from make (n + 1) l l) n ∙ new_none (n + 1) l
 
   -- what one entry put fills: it, if it was empty and is filled
-  abbrev pub filled_at : ℕ → Fill → Fill → List Filling
-  filled_at n f g = on_fill f (on_fill g [] (λ what. make n what ∷ [])) (λ first. [])
+  abbrev pub filled_at : ℕ → Option Reading → Option Reading → List Filling
+  filled_at n f g = on_option f (on_option g [] (λ what. make n what ∷ [])) (λ first. [])
 
   pub new_set :
       (n k : ℕ) (l : List Entry) (y : Entry) → k < length l →
@@ -44,7 +43,7 @@ module _ (make : ℕ → Reading → Filling) where
   new_set n zero (x ∷ l) y h =
       ap
       (λ (rest : List Filling).
-      on_fill x.fill (on_fill y.fill rest (λ what. make n what ∷ rest)) (λ first. rest)) (new_none (n + 1) l) ∙
+      on_option x.fill (on_option y.fill rest (λ what. make n what ∷ rest)) (λ first. rest)) (new_none (n + 1) l) ∙
       ap (λ (m : ℕ). filled_at m x.fill y.fill) (let q : n ≡ n + 0 = omega arith in q)
   new_set n (suc k) (x ∷ l) y h =
       same_fill x.fill (new_from make (n + 1) l (set l k y)) n ∙ new_set (n + 1) k l y (omega arith) ∙
@@ -79,8 +78,8 @@ sum_but (suc n) f g k b h = go (eqb n k) refl (λ l. sum_but n f g k l (λ p c. 
         omega arith
 
 -- the filled entries of each sheet of an array
-abbrev pub marked : Fill → ℕ
-marked f = on_fill f 0 (λ what. 1)
+abbrev pub marked : Option Reading → ℕ
+marked f = on_option f 0 (λ what. 1)
 
 abbrev pub filled_of : List Entry → ℕ → ℕ
 filled_of l s = sum_of instructions (λ p. marked (get_or l (base_of s + p) entry0).fill)
@@ -112,16 +111,16 @@ module _ (l : List Entry) (s : ℕ) (n : length l ≡ entries) (h : s < sheets) 
   abbrev now : List Entry
   now = lay (base_of s) (replicate instructions entry0) l
 
-  at : (t p : ℕ) → p < instructions → (get_or now (base_of t + p) entry0).fill ≡ put (logs_of l) s (λ p. Empty) t p
-  at t p b = sym (log_at now t p b) ∙ ap (λ (f : ℕ → ℕ → Fill). f t p) (lay_log_lem l s n h)
+  at : (t p : ℕ) → p < instructions → (get_or now (base_of t + p) entry0).fill ≡ put (logs_of l) s (λ p. None) t p
+  at t p b = sym (log_at now t p b) ∙ ap (λ (f : ℕ → ℕ → Option Reading). f t p) (lay_log_lem l s n h)
 
   pub emptied_here : filled_of now s ≡ 0
   emptied_here =
-      sum_same instructions (λ p. 0) _ (λ p b. ap marked (at s p b ∙ ap (λ (t : Bool). pick t (λ (p : ℕ). Empty) (logs_of l s) p) (eq-eqb s s refl))) ∙
+      sum_same instructions (λ p. 0) _ (λ p b. ap marked (at s p b ∙ ap (λ (t : Bool). pick t (λ (p : ℕ). None) (logs_of l s) p) (eq-eqb s s refl))) ∙
       sum_none instructions
 
   pub emptied_there : (t : ℕ) → (t ≡ s → ⊥) → filled_of now t ≡ filled_of l t
   emptied_there t q =
       sum_same instructions _ _
       (λ p b.
-      ap marked (at t p b ∙ ap (λ (c : Bool). pick c (λ (p : ℕ). Empty) (logs_of l t) p) (ne_eqb t s q) ∙ log_at l t p b))
+      ap marked (at t p b ∙ ap (λ (c : Bool). pick c (λ (p : ℕ). None) (logs_of l t) p) (ne_eqb t s q) ∙ log_at l t p b))

@@ -1,6 +1,7 @@
 -- No empty promise: a history on setup S in which two runs share a log, at the same time, and one of them is dropped; computed. Worker 0
 -- has job A, takes lock 0 and reads word 0 for A's load; worker 1, with job B, helps, and fills the first entry of the log; worker 0 goes on,
 -- fills the second, at A's store, and is dropped; worker 1 goes to its end.
+use Rattle.std.specs.Prelude.{Ok}
 use mathlib.Core.Bool.{true, false}
 use mathlib.Core.List.{[], ◌∷◌, ◌++◌}
 use mathlib.Core.Path.{◌≡◌, refl}
@@ -21,7 +22,6 @@ use Rattle.steps.specs.declared.State.TheVariants.{Idle}
 use Rattle.engine.specs.Step.{places_of, put_at, view_at}
 use Rattle.engine.specs.Calls.{begin_of, begin_told, begun_of, collect_of, drop_of, fresh_of, setup_of, step_of}
 use Rattle.engine.specs.State.{blank_of, worker_at}
-use Rattle.engine.specs.declared.CollectTold.{CollectTold}
 use Rattle.past.specs.Past.{Begin, Drop, steps, AllRecords, Past}
 use Rattle.histories.specs.Filled.{made_by, sum_of, filled_entries, number_of}
 use Rattle.histories.specs.Filling.{new_from}
@@ -29,6 +29,7 @@ use Rattle.histories.specs.History.{then_of, follow, sofar}
 use Rattle.tables.specs.Table.{setup_s, job_a, job_b, job_skipping}
 use Rattle.tables.proofs.Bytes.{job_bytes_lem, job_b_bytes}
 use Rattle.histories.proofs.Demand.Cuts.{on_s}
+use Rattle.engine.specs.Calls.{answered}
 
 -- up to the drop, and all of it
 unfoldable pub two_running : Past
@@ -52,7 +53,7 @@ pub record TwoRunners : Type 0 where
   -- both tries ran job A; B's own sheet was not run
   pub ran : ((sofar two_runners).ran 0 0 ≡ true) × ((sofar two_runners).ran 1 0 ≡ true) × ((sofar two_runners).ran 1 1 ≡ false)
   -- 1 is told of the helper; 1 was lost with the drop; two entries are filled
-  pub told : (collect_of (sofar two_runners).state 1).told ≡ CollectTold.Answered NotTaken 11 1
+  pub told : (collect_of (sofar two_runners).state 1).told ≡ Ok (answered NotTaken 11 1)
   pub before : (worker_at (sofar two_running).state 0).filled ≡ 1
   pub dropped : (worker_at (sofar two_runners).state 0).state ≡ Idle
   pub numbers : (number_of (sofar two_runners) 0 ≡ 1) × (number_of (sofar two_runners) 1 ≡ 1)

@@ -1,4 +1,5 @@
 -- Request 02 of every history, by what each call keeps.
+use Rattle.std.specs.Prelude.{Ok}
 use Prim.Native.Nat.{ℕ, suc, ◌+◌, ◌≤◌}
 use mathlib.Core.Bool.{Bool, true, false}
 use mathlib.Core.List.{List, [], ◌∷◌, ◌++◌}
@@ -16,7 +17,6 @@ use Rattle.steps.specs.declared.State.{State}
 use Rattle.steps.specs.declared.State.TheVariants.{Idle, UnderWay, Finished}
 use Rattle.engine.specs.Calls.{collect_of}
 use Rattle.engine.specs.State.{worker_at}
-use Rattle.engine.specs.declared.CollectTold.{CollectTold}
 use Rattle.engine.specs.declared.Engine.{Engine}
 use Rattle.past.specs.Past.{Call, Drop, AllRecords, Past}
 use Rattle.helping.specs.Machine.{Rules}
@@ -31,6 +31,7 @@ use Rattle.histories.proofs.Filled.Entries.{sum_same, sum_but, sum_none}
 use Rattle.histories.proofs.Filled.Keep.{kept_past}
 use Rattle.histories.proofs.Filled.Kept.{Ledger, ledger_of, Made, AllMade, Kept}
 use Rattle.histories.proofs.Filled.Over.{Gone, stills, dropped_still}
+use Rattle.engine.specs.Calls.{answered}
 
 -- The numbers of the tries that ran a job add up to its fillings: each filling is of one try, which ran that job and no other.
 module _ (L : Ledger) (one : (n i j : ℕ) → L.ran n i ≡ true → L.ran n j ≡ true → i ≡ j) (j : ℕ) where
@@ -112,7 +113,7 @@ module _ (K : Rules) (x : Sofar) (s : Standing K x) (o : Kept x) where
       }
 
   told_of :
-      (w : ℕ) (a : Answer) (n m : ℕ) → (collect_of e w).told ≡ CollectTold.Answered a n m → (more : List Call) → AllRecords more →
+      (w : ℕ) (a : Answer) (n m : ℕ) → (collect_of e w).told ≡ Ok (answered a n m) → (more : List Call) → AllRecords more →
       m ≡ number_of (follow x more) (x.tries w).number
   told_of w a n m h more b =
       let t = tells e w a n m h in

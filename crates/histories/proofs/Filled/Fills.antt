@@ -1,4 +1,5 @@
 -- An accepted step of the whole state: the entries that it fills, the worker's count, and the filled entries of each sheet.
+use Rattle.std.specs.Prelude.{None, Option, Some}
 use Prim.Native.Nat.{ℕ, suc, ◌+◌, ◌/◌, ◌%◌, ◌<◌}
 use mathlib.Core.List.{[], ◌∷◌}
 use mathlib.Core.Path.{◌≡◌, refl, sym, ap, ◌∙◌, subst}
@@ -9,9 +10,6 @@ use lib.Dec.{eqb}
 use lib.ListN.{length}
 use Rattle.parts.specs.Numbers.{workers, sheets, instructions}
 use Rattle.parts.specs.Parts.{next32}
-use Rattle.parts.specs.declared.Fill.{Fill}
-use Rattle.parts.specs.declared.Fill.TheVariants.{Empty, Filled}
-use Rattle.parts.specs.declared.Holder.TheVariants.{By}
 use Rattle.parts.specs.declared.Reading.{Reading}
 use Rattle.steps.specs.Places.{spot_of}
 use Rattle.steps.specs.Try.{effect_of}
@@ -39,14 +37,14 @@ pub data Fills (x : Sofar) (w : ℕ) (e : Engine) : Type 0 where
       filled_by x w e ≡ [] → (worker_at e w).filled ≡ (worker_at x.state w).filled →
       ((t : ℕ) → filled_entries e t ≡ filled_entries x.state t) → Fills x w e
   entry :
-      (s : ℕ) (f : Filling) → runs_sheet (worker_at x.state w).state ≡ By s → f.job ≡ latest (x.owners s) →
+      (s : ℕ) (f : Filling) → runs_sheet (worker_at x.state w).state ≡ Some s → f.job ≡ latest (x.owners s) →
       f.by ≡ (x.tries w).number → filled_by x w e ≡ f ∷ [] → (worker_at e w).filled ≡ next32 (worker_at x.state w).filled →
       filled_entries e s ≡ suc (filled_entries x.state s) →
       ((t : ℕ) → (t ≡ s → ⊥) → filled_entries e t ≡ filled_entries x.state t) → Fills x w e
 
-filled_same : (make : ℕ → Reading → Filling) (n : ℕ) (f g : Fill) → g ≡ f → filled_at make n f g ≡ []
-filled_same make n Empty g e = simp e
-filled_same make n (Filled r) g e = refl
+filled_same : (make : ℕ → Reading → Filling) (n : ℕ) (f g : Option Reading) → g ≡ f → filled_at make n f g ≡ []
+filled_same make n None g e = simp e
+filled_same make n (Some r) g e = refl
 
 module _ (x : Sofar) (g : Good x.state) (w : ℕ) (h : w < workers) (p : Point) (q : (worker_at x.state w).state ≡ UnderWay p) where
   abbrev e : Engine
@@ -116,11 +114,11 @@ module _ (x : Sofar) (g : Good x.state) (w : ℕ) (h : w < workers) (p : Point) 
       let same : s ≡ r.sheet % sheets = ap (λ (y : Point). (spot_of y (worker_at e w).own).sheet % sheets) z in
       omega arith
 
-  filled_one : (read : Reading) → v.entry.fill ≡ Empty → (effect_of p v).entry.fill ≡ Filled read →
+  filled_one : (read : Reading) → v.entry.fill ≡ None → (effect_of p v).entry.fill ≡ Some read →
       filled_by x w now ≡ make (0 + (base_of s + k)) read ∷ []
   filled_one read a b = new_now ∙ simp (a, b)
 
-  one_more : (read : Reading) → v.entry.fill ≡ Empty → (effect_of p v).entry.fill ≡ Filled read →
+  one_more : (read : Reading) → v.entry.fill ≡ None → (effect_of p v).entry.fill ≡ Some read →
       filled_entries now s ≡ suc (filled_entries e s)
   one_more read a b =
       let m = ap marked a in
@@ -132,6 +130,6 @@ module _ (x : Sofar) (g : Good x.state) (w : ℕ) (h : w < workers) (p : Point) 
   stepped_fills (none a b) = nothing (new_now ∙ filled_same make _ _ _ a) (count_now _ b ∙ count_was) (all_same a)
   stepped_fills (one r at read z a b c) =
       entry s (make (0 + (base_of s + k)) read)
-      (ap runs_sheet (q ∙ ap UnderWay z) ∙ ap By (sym (sheet_is r at z)))
+      (ap runs_sheet (q ∙ ap UnderWay z) ∙ ap Some (sym (sheet_is r at z)))
       (ap (λ (n : ℕ). latest (x.owners n)) (let n : (0 + (base_of s + k)) / instructions ≡ s = omega arith in n)) refl
       (filled_one read a b) (count_now _ c ∙ ap next32 count_was) (one_more read a b) there_now

@@ -1,4 +1,5 @@
 -- What every call keeps of who filled what, and how it grows.
+use Rattle.std.specs.Prelude.{Option, Some}
 use Prim.Native.Nat.{ℕ, ◌<◌, ◌≤◌}
 use mathlib.Core.Bool.{Bool, true}
 use mathlib.Core.List.{List, [], ◌∷◌}
@@ -6,9 +7,7 @@ use mathlib.Core.Path.{◌≡◌, refl, sym, ap, ◌∙◌}
 use native.Mathlib.Omega.{arith}
 use borrow.Author.Tests.{ne_eqb}
 use lib.ListN.{length}
-use Rattle.parts.specs.Pick.{on_holder}
-use Rattle.parts.specs.declared.Holder.{Holder}
-use Rattle.parts.specs.declared.Holder.TheVariants.{By}
+use Rattle.parts.specs.Pick.{on_option}
 use Rattle.alone.specs.Jobs.{Try}
 use Rattle.steps.specs.Places.{helped_of}
 use Rattle.steps.specs.declared.Point.{Point}
@@ -45,7 +44,7 @@ Under (Finished x) = ⊥
 -- a worker in this state runs job j
 pub record RunsOn (L : Ledger) (q : State) (j : ℕ) : Type 0 where
   pub sheet : ℕ
-  pub at : runs_sheet q ≡ By sheet
+  pub at : runs_sheet q ≡ Some sheet
   pub job : latest (L.owners sheet) ≡ j
 
 -- of worker k, whose try has the number t and made n steps
@@ -53,7 +52,7 @@ pub record Hand (L : Ledger) (k : Worker) (t n : ℕ) : Type 0 where
   pub count : k.filled ≡ made_by t L.fillings
   pub low : k.filled ≤ n
   pub own : Owned L k.own
-  pub helped : (s : ℕ) → helped_in k.state ≡ By s → Owned L s
+  pub helped : (s : ℕ) → helped_in k.state ≡ Some s → Owned L s
   pub run : Under k.state → (j : ℕ) → L.ran t j ≡ true → RunsOn L k.state j
 
 pub record Made (L : Ledger) (f : Filling) : Type 0 where
@@ -68,7 +67,7 @@ AllMade L (f ∷ fs) = Made L f × AllMade L fs
 -- of a state, and of each worker's try and steps
 pub record Keeps (L : Ledger) (e : Engine) (tries steps : ℕ → ℕ) : Type 0 where
   pub hands : (w : ℕ) → NotIdle (worker_at e w).state → Hand L (worker_at e w) (tries w) (steps w)
-  pub locks : (l s : ℕ) → (lock_at e l).holder ≡ By s → Owned L s
+  pub locks : (l s : ℕ) → (lock_at e l).holder ≡ Some s → Owned L s
   pub made : AllMade L L.fillings
   pub born : (n j : ℕ) → L.ran n j ≡ true → n < L.begins
   pub one : (n i j : ℕ) → L.ran n i ≡ true → L.ran n j ≡ true → i ≡ j
@@ -80,11 +79,11 @@ pub record Keeps (L : Ledger) (e : Engine) (tries steps : ℕ → ℕ) : Type 0 
 abbrev pub Kept : Sofar → Type 0
 Kept x = Keeps (ledger_of x) x.state (λ w. (x.tries w).number) x.steps
 
-pub by_is : (s t : ℕ) → By s ≡ By t → s ≡ t
-by_is s t h = ap (λ (x : Holder). on_holder x 0 (λ (n : ℕ). n)) h
+pub by_is : (s t : ℕ) → Some s ≡ Some t → s ≡ t
+by_is s t h = ap (λ (x : Option ℕ). on_option x 0 (λ (n : ℕ). n)) h
 
 -- a run's sheet counts as helped
-pub runs_helped : (q : State) (s : ℕ) → runs_sheet q ≡ By s → helped_in q ≡ By s
+pub runs_helped : (q : State) (s : ℕ) → runs_sheet q ≡ Some s → helped_in q ≡ Some s
 unfolding helped_of
 runs_helped Idle s h = h
 runs_helped (UnderWay Look) s h = h
@@ -103,7 +102,7 @@ runs_one L q i j a b =
 pub hand_grows :
     (L M : Ledger) (k : Worker) (t n : ℕ) → Hand L k t n → made_by t M.fillings ≡ made_by t L.fillings →
     ((j : ℕ) → M.ran t j ≡ true → L.ran t j ≡ true) → ((s : ℕ) → Owned L s → Owned M s) →
-    ((s : ℕ) → Under k.state → helped_in k.state ≡ By s → latest (M.owners s) ≡ latest (L.owners s)) → Hand M k t n
+    ((s : ℕ) → Under k.state → helped_in k.state ≡ Some s → latest (M.owners s) ≡ latest (L.owners s)) → Hand M k t n
 hand_grows L M k t n h a b c d =
     record {
       count = h.count ∙ sym a;

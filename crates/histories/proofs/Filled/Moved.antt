@@ -1,4 +1,5 @@
 -- An accepted step keeps it.
+use Rattle.std.specs.Prelude.{None, Option, Some}
 use Prim.Native.Nat.{ℕ, suc, ◌<◌, ◌≤◌}
 use mathlib.Core.Bool.{Bool, true, false}
 use mathlib.Core.List.{List, ◌∷◌, ◌++◌}
@@ -9,9 +10,7 @@ use lib.Dec.{eqb}
 use lib.ListN.{length}
 use Rattle.parts.specs.Numbers.{workers, instructions, try_steps}
 use Rattle.parts.specs.Parts.{next32}
-use Rattle.parts.specs.Pick.{pick, ◌or◌, on_holder}
-use Rattle.parts.specs.declared.Holder.{Holder}
-use Rattle.parts.specs.declared.Holder.TheVariants.{Free, By}
+use Rattle.parts.specs.Pick.{pick, ◌or◌, on_option}
 use Rattle.parts.specs.declared.LockWord.{LockWord}
 use Rattle.steps.specs.Try.{effect_of}
 use Rattle.steps.specs.declared.Point.{Point}
@@ -81,9 +80,9 @@ module _ (K : Rules) (x : Sofar) (st : Standing K x) (o : Kept x) (w : ℕ) (p :
   pub fills : Fills x w now
   fills = stepped_fills x st.good w h p q goes.touch
 
-  lock_now_lem : (l s : ℕ) → (lock_at now l).holder ≡ By s → Owned L s
+  lock_now_lem : (l s : ℕ) → (lock_at now l).holder ≡ Some s → Owned L s
   lock_now_lem l s z =
-      put_case (lock_at e) (places_of e w p).lock (effect_of p v).lock (λ (y : LockWord). y.holder ≡ By s → Owned L s) l
+      put_case (lock_at e) (places_of e w p).lock (effect_of p v).lock (λ (y : LockWord). y.holder ≡ Some s → Owned L s) l
       (λ n. goes.lock s) (λ n. o.locks l s) (sym (ap (λ (y : LockWord). y.holder) (lock_stepped e st.good w p l)) ∙ z)
 
   -- the try's runs, now and before
@@ -96,9 +95,9 @@ module _ (K : Rules) (x : Sofar) (st : Standing K x) (o : Kept x) (w : ℕ) (p :
   runs_now : (j : ℕ) → M.ran t₀ j ≡ true → RunsOn L (worker_at e w).state j
   runs_now j z = go (x.ran t₀ j) refl (sym (ran_here j) ∙ z)
     where
-      job : (y : Holder) → runs_sheet (worker_at e w).state ≡ y → on_holder y false (λ s. eqb (latest (x.owners s)) j) ≡ true → RunsOn L (worker_at e w).state j
-      job Free a c = let z : ◌≡◌ {A = ℕ} 0 1 = cc in absurd (omega arith)
-      job (By s) a c = record { sheet = s; at = a; job = eqb-true (latest (x.owners s)) j c }
+      job : (y : Option ℕ) → runs_sheet (worker_at e w).state ≡ y → on_option y false (λ s. eqb (latest (x.owners s)) j) ≡ true → RunsOn L (worker_at e w).state j
+      job None a c = let z : ◌≡◌ {A = ℕ} 0 1 = cc in absurd (omega arith)
+      job (Some s) a c = record { sheet = s; at = a; job = eqb-true (latest (x.owners s)) j c }
 
       go : (b : Bool) → x.ran t₀ j ≡ b → (b or runs_job x w j) ≡ true → RunsOn L (worker_at e w).state j
       go true a c = hand.run under j a
@@ -141,7 +140,7 @@ module _ (K : Rules) (x : Sofar) (st : Standing K x) (o : Kept x) (w : ℕ) (p :
   unfolding view_at places_of
   own_here = subst (Owned L) (sym goes.own) hand.own
 
-  still : (u : State) (s : ℕ) → Under u → Runs s u → runs_sheet u ≡ By s
+  still : (u : State) (s : ℕ) → Under u → Runs s u → runs_sheet u ≡ Some s
   still Idle s a c = absurd a
   still (UnderWay y) s a c = c
   still (Finished y) s a c = absurd a
@@ -221,7 +220,7 @@ module _ (K : Rules) (x : Sofar) (st : Standing K x) (o : Kept x) (w : ℕ) (p :
       (λ s y. c s ∙ o.bare s y)
 
   -- where it fills an entry of sheet s
-  module _ (s : ℕ) (f : Filling) (at : runs_sheet (worker_at e w).state ≡ By s) (job : f.job ≡ latest (x.owners s)) (by : f.by ≡ t₀)
+  module _ (s : ℕ) (f : Filling) (at : runs_sheet (worker_at e w).state ≡ Some s) (job : f.job ≡ latest (x.owners s)) (by : f.by ≡ t₀)
       (count : (worker_at now w).filled ≡ next32 (worker_at e w).filled) (here : filled_entries now s ≡ suc (filled_entries e s))
       (there : (t : ℕ) → (t ≡ s → ⊥) → filled_entries now t ≡ filled_entries e t) where
     abbrev fs : List Filling
@@ -245,7 +244,7 @@ module _ (K : Rules) (x : Sofar) (st : Standing K x) (o : Kept x) (w : ℕ) (p :
     ran_f =
         ap (λ (n : ℕ). M.ran n f.job) by ∙ ap (M.ran t₀) job ∙ ran_here (latest (x.owners s)) ∙
         or_true (x.ran t₀ (latest (x.owners s))) (runs_job x w (latest (x.owners s)))
-        (ap (λ (y : Holder). on_holder y false (λ t. eqb (latest (x.owners t)) (latest (x.owners s)))) at ∙
+        (ap (λ (y : Option ℕ). on_option y false (λ t. eqb (latest (x.owners t)) (latest (x.owners s)))) at ∙
         eq-eqb (latest (x.owners s)) (latest (x.owners s)) refl)
 
     made_more : AllMade (N fs) fs

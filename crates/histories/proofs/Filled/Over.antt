@@ -1,4 +1,5 @@
 -- A try that is over fills nothing more: its number stays, whatever calls follow.
+use Rattle.std.specs.Prelude.{Ok}
 use Prim.Native.Nat.{ℕ, zero, suc, ◌<◌, ◌≤◌}
 use mathlib.Core.Bool.{Bool, true, false}
 use mathlib.Core.List.{List, [], ◌∷◌, ◌++◌}
@@ -10,7 +11,6 @@ use lib.Dec.{eqb}
 use lib.ListN.{get_or, length}
 use Rattle.parts.specs.Numbers.{workers}
 use Rattle.parts.specs.Pick.{pick}
-use Rattle.parts.specs.declared.Told.TheVariants.{Accepted}
 use Rattle.steps.specs.Worker as steps
 use Rattle.steps.specs.Worker.{worker0, looking_of}
 use Rattle.steps.specs.declared.Point.{Point}
@@ -136,7 +136,7 @@ seated e g w y =
     (λ h. absurd (subst (λ (k : Worker). NotIdle k.state) (beyond e.worker w (omega (arith, g.lengths.worker))) y))
     (below_or_not w workers)
 
-drop_accepted : (e : Engine) (w : ℕ) → w < workers → (q : State) → (worker_at e w).state ≡ q → NotIdle q → drop_told e w ≡ Accepted
+drop_accepted : (e : Engine) (w : ℕ) → w < workers → (q : State) → (worker_at e w).state ≡ q → NotIdle q → drop_told e w ≡ Ok tt
 unfolding steps.drop_by_state
 drop_accepted e w h Idle z y = absurd y
 drop_accepted e w h (UnderWay p) z y = simp (lt-leb workers w h, z)
@@ -154,7 +154,7 @@ dropped_still K x s o w y =
     let told = drop_accepted e w h (worker_at e w).state refl y in
     let seat = one_of w (steps.drop_by_state (worker_at e w)) told in
     let state : (drop_of e w).engine ≡ with_worker e w worker0 =
-    ap (λ (o : Outcome). o.engine) (drop_told_lem e w Accepted told) ∙
+    ap (λ (o : Outcome). o.engine) (drop_told_lem e w (Ok tt) told) ∙
     ap (λ (k : Worker). with_worker e w k) (dropped_is (worker_at e w) seat.1) in
     subst (λ (d : Engine). Still n (made_by n x.fillings) (and_now x d)) (sym state)
     (record {

@@ -1,4 +1,5 @@
 -- The map from the engine's state to the theory's machine.
+use Rattle.std.specs.Prelude.{None}
 use Prim.Native.Nat.{ℕ, ◌+◌}
 use mathlib.Core.Path.{◌≡◌}
 use lib.Dec.{ltb}
@@ -7,7 +8,6 @@ use Rattle.arrays.specs.Fresh.{values_of}
 use Rattle.parts.specs.Numbers.{instructions, last_turn}
 use Rattle.parts.specs.Parts.{entry0, reading_of}
 use Rattle.parts.specs.Pick.{pick}
-use Rattle.parts.specs.declared.Fill.TheVariants.{Empty}
 use Rattle.steps.specs.declared.Worker.{Worker}
 use Rattle.engine.specs.State.{sheet0, word_count, worker_at, lock_at, word_at, words_of, base_of, program_of}
 use Rattle.engine.specs.declared.Engine.{Engine}
@@ -36,7 +36,7 @@ scene_of e =
       lock = λ l. lock_at e l;
       program = λ s. program_of e s;
       done = λ s. (get_or e.sheet s sheet0).done;
-      log = λ s p. pick (ltb p instructions) (get_or e.entry (base_of s + p) entry0).fill Empty;
+      log = λ s p. pick (ltb p instructions) (get_or e.entry (base_of s + p) entry0).fill None;
       worker = λ w. hand_of (worker_at e w);
     }
 

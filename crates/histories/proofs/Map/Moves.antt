@@ -1,5 +1,6 @@
 -- What a step does to the pieces that it can touch is what the theory's machine does: where the numbers are in their ranges, no
 -- remainder bites.
+use Rattle.std.specs.Prelude.{None, Option, Some}
 use Prim.Native.Nat.{ℕ, suc, ◌+◌, ◌%◌, ◌^◌, ◌<◌}
 use native.Mathlib.Omega.{arith}
 use mathlib.Core.Path.{◌≡◌, refl, ◌∙◌, sym, ap}
@@ -10,17 +11,13 @@ use Rattle.parts.specs.Instr.{asks_of, follows_of, on_asks, on_follows, word_of}
 use Rattle.parts.specs.Numbers.{last_turn}
 use Rattle.parts.specs.Parts as parts
 use Rattle.parts.specs.Parts.{next32, reading_of, committed_of, holds_of, is_first}
-use Rattle.parts.specs.Pick.{pick, on_holder, on_fill}
+use Rattle.parts.specs.Pick.{pick, on_option}
 use Rattle.parts.specs.declared.Answer.TheVariants.{NotTaken, Worn}
 use Rattle.parts.specs.declared.Asks.{Asks}
 use Rattle.parts.specs.declared.Asks.TheVariants.{Halt, Go, Touch}
 use Rattle.parts.specs.declared.Entry.{Entry}
-use Rattle.parts.specs.declared.Fill.{Fill}
-use Rattle.parts.specs.declared.Fill.TheVariants.{Empty, Filled}
 use Rattle.parts.specs.declared.Follows.{Follows}
 use Rattle.parts.specs.declared.Follows.TheVariants as follows
-use Rattle.parts.specs.declared.Holder.{Holder}
-use Rattle.parts.specs.declared.Holder.TheVariants.{Free, By}
 use Rattle.parts.specs.declared.Instr.{Instr}
 use Rattle.parts.specs.declared.LockWord.{LockWord}
 use Rattle.parts.specs.declared.Reading.{Reading}
@@ -66,30 +63,30 @@ unfolding look_step look_to
 look_is v = by v.lock.holder (eqb v.lock.turn last_turn)
   where
     by :
-        (h : Holder) (b : Bool) →
-        on_holder h (pick b (to_of v (Finished Worn)) (at_of v (Grab v.lock.turn)))
+        (h : Option ℕ) (b : Bool) →
+        on_option h (pick b (to_of v (Finished Worn)) (at_of v (Grab v.lock.turn)))
         (λ s. at_of v (Point.Run (start_of s v.lock.turn) Read)) ≡
         to_of v
-        (on_holder h (pick b (Finished Worn) (UnderWay (Grab v.lock.turn)))
+        (on_option h (pick b (Finished Worn) (UnderWay (Grab v.lock.turn)))
         (λ s. UnderWay (Point.Run (start_of s v.lock.turn) Read)))
-    by Free true = refl
-    by Free false = refl
-    by (By s) b = refl
+    by None true = refl
+    by None false = refl
+    by (Some s) b = refl
 
 pub grab_is : (l : LockWord) (seen own : ℕ) → seen + 1 < 2 ^ 32 → parts.grab_of l seen own ≡ machine.machine_grab l seen own
 unfolding parts.grab_of machine.machine_grab
 grab_is l seen own h = by l.holder (eqb l.turn seen) refl
   where
     by :
-        (x : Holder) (b : Bool) → eqb l.turn seen ≡ b →
-        on_holder x (pick b (record { turn = next32 l.turn; holder = By own }) l) (λ s. l) ≡
-        on_holder x (pick b (record { turn = suc seen; holder = By own }) l) (λ s. l)
-    by Free true e =
+        (x : Option ℕ) (b : Bool) → eqb l.turn seen ≡ b →
+        on_option x (pick b (record { turn = next32 l.turn; holder = Some own }) l) (λ s. l) ≡
+        on_option x (pick b (record { turn = suc seen; holder = Some own }) l) (λ s. l)
+    by None true e =
         let q = eqb-true l.turn seen e in
         let n : next32 l.turn ≡ suc seen = omega arith in
-        λ i. record { turn = n i; holder = By own }
-    by Free false e = refl
-    by (By s) b e = refl
+        λ i. record { turn = n i; holder = Some own }
+    by None false e = refl
+    by (Some s) b e = refl
 
 pub mark_is :
     (v : View) (seen : LockWord) (won : ℕ) → read_mark_step v seen won ≡ to_of v (mark_to v.done seen won v.worker.own)
@@ -105,17 +102,17 @@ mark_is v seen won = by v.done seen.holder
     other s false = refl
 
     by :
-        (b : Bool) (h : Holder) →
+        (b : Bool) (h : Option ℕ) →
         pick b (to_of v own)
-        (on_holder h (to_of v (Finished NotTaken))
+        (on_option h (to_of v (Finished NotTaken))
         (λ s. pick (eqb s v.worker.own) (to_of v own) (at_of v (Point.Run (start_of s seen.turn) Read)))) ≡
         to_of v
         (pick b own
-        (on_holder h (Finished NotTaken)
+        (on_option h (Finished NotTaken)
         (λ s. pick (eqb s v.worker.own) own (UnderWay (Point.Run (start_of s seen.turn) Read)))))
     by true h = refl
-    by false Free = refl
-    by false (By s) = other s (eqb s v.worker.own)
+    by false None = refl
+    by false (Some s) = other s (eqb s v.worker.own)
 
 -- an act, by what its instruction asks
 abbrev act_by : Instr → Registers → Asks → Act
@@ -158,13 +155,13 @@ target_is i rs = by (asks_of i rs) refl
     by (Touch w) e t = touch_word i rs w e
 
 -- "Commit": the entry is filled with what it holds from now on
-pub committed_is : (y : Entry) (u : Reading) → (committed_of y u).fill ≡ Filled (held_of y.fill u)
+pub committed_is : (y : Entry) (u : Reading) → (committed_of y u).fill ≡ Some (held_of y.fill u)
 unfolding committed_of
 committed_is y u = by y.fill refl
   where
-    by : (z : Fill) → y.fill ≡ z → (on_fill z (record { fill = Filled u }) (λ first. y)).fill ≡ Filled (held_of z u)
-    by Empty e = refl
-    by (Filled first) e = e
+    by : (z : Option Reading) → y.fill ≡ z → (on_option z (record { fill = Some u }) (λ first. y)).fill ≡ Some (held_of z u)
+    by None e = refl
+    by (Some first) e = e
 
 follow_is :
     (v : View) (x : Shared) (r : Run) (held : Reading) (f : Follows) → r.next + 1 < 2 ^ 8 →
@@ -189,7 +186,7 @@ commit_is v r u x t e h k =
     follow_is now x (machine_logged r) held (follows_of v.instr r.registers held.value) h ∙
     ap (λ (p : Point). at_of now p) (by (asks_of v.instr r.registers) t)
   where
-    to : Fill → Point
+    to : Option Reading → Point
     to z = point_of (machine.machine_follow (follows_of v.instr r.registers (held_of z u).value) x (machine_logged r) (held_of z u))
 
     by : (a : Asks) → Logs (act_by v.instr r.registers a) → to v.entry.fill ≡ point_of (machine.machine_commit (act_by v.instr r.registers a) x r u)
@@ -200,7 +197,7 @@ commit_is v r u x t e h k =
 pub commit_shares :
     (a : Act) (x : Shared) (r : Run) (u : Reading) → Logs a →
     (machine.machine_commit a x r u).shared ≡
-    record { word = x.word; log = put x.log r.place (Filled (held_of (x.log r.place) u)) }
+    record { word = x.word; log = put x.log r.place (Some (held_of (x.log r.place) u)) }
 commit_shares (fin said) x r u t = absurd t
 commit_shares (go rs n) x r u t = absurd t
 commit_shares (touch w f) x r u t = refl

@@ -1,4 +1,5 @@
 -- The arrays after a store, as the theory's machine has them: `put` into what they held.
+use Rattle.std.specs.Prelude.{None, Option}
 use Prim.Native.Nat.{ℕ, ◌+◌, ◌≤◌, ◌<◌}
 use native.Mathlib.Omega.{arith}
 use mathlib.Core.Path.{◌≡◌, refl, ◌∙◌, sym, ap}
@@ -13,8 +14,6 @@ use Rattle.parts.specs.Numbers.{sheets, instructions, entries}
 use Rattle.parts.specs.Parts.{word0, lock0, entry0, reading_of}
 use Rattle.parts.specs.Pick.{pick}
 use Rattle.parts.specs.declared.Entry.{Entry}
-use Rattle.parts.specs.declared.Fill.{Fill}
-use Rattle.parts.specs.declared.Fill.TheVariants.{Empty}
 use Rattle.parts.specs.declared.LockWord.{LockWord}
 use Rattle.parts.specs.declared.Word.{Word}
 use Rattle.steps.specs.Worker.{worker0}
@@ -30,6 +29,7 @@ use Rattle.ranges.specs.Good.{Good}
 use Rattle.ranges.proofs.Programs.{beside, put_program}
 use Rattle.ranges.proofs.Laid.{lay_there, part_lay}
 use Rattle.histories.proofs.Map.Map.{hand_of, scene_of}
+use Rattle.parts.specs.declared.Reading.{Reading}
 
 -- a function that is x at i, and elsewhere f
 pub put_by :
@@ -49,15 +49,15 @@ set-put f l i x d h =
     (λ k n. ap f (get_or-set_other l i k x d n))
 
 -- the logs that an array of entries holds
-abbrev pub logs_of : List Entry → ℕ → ℕ → Fill
-logs_of l s p = pick (ltb p instructions) (get_or l (base_of s + p) entry0).fill Empty
+abbrev pub logs_of : List Entry → ℕ → ℕ → Option Reading
+logs_of l s p = pick (ltb p instructions) (get_or l (base_of s + p) entry0).fill None
 
 log_is :
-    (l : List Entry) (s p : ℕ) (z : Fill) → (p < instructions → (get_or l (base_of s + p) entry0).fill ≡ z) →
-    (instructions ≤ p → Empty ≡ z) → logs_of l s p ≡ z
+    (l : List Entry) (s p : ℕ) (z : Option Reading) → (p < instructions → (get_or l (base_of s + p) entry0).fill ≡ z) →
+    (instructions ≤ p → None ≡ z) → logs_of l s p ≡ z
 log_is l s p z h k = go (ltb p instructions) refl
   where
-    go : (b : Bool) → ltb p instructions ≡ b → pick b (get_or l (base_of s + p) entry0).fill Empty ≡ z
+    go : (b : Bool) → ltb p instructions ≡ b → pick b (get_or l (base_of s + p) entry0).fill None ≡ z
     go true e = h (ltb-true p instructions e)
     go false e = k (ltb-false p instructions e)
 
@@ -89,8 +89,8 @@ set_log l s p x n h m =
 -- the entries of sheet s, all empty from now
 pub lay_log_lem :
     (l : List Entry) (s : ℕ) → length l ≡ entries → s < sheets →
-    logs_of (lay (base_of s) (replicate instructions entry0) l) ≡ put (logs_of l) s (λ p. Empty)
-lay_log_lem l s n h = put_by (logs_of l) (logs_of now) s (λ p. Empty) here other
+    logs_of (lay (base_of s) (replicate instructions entry0) l) ≡ put (logs_of l) s (λ p. None)
+lay_log_lem l s n h = put_by (logs_of l) (logs_of now) s (λ p. None) here other
   where
     blanks : List Entry
     blanks = replicate instructions entry0
@@ -106,10 +106,10 @@ lay_log_lem l s n h = put_by (logs_of l) (logs_of now) s (λ p. Empty) here othe
         get_or (take instructions (drop (base_of t) m)) p entry0 ≡ get_or m (base_of t + p) entry0
     part m t p k = get_or-take instructions (drop (base_of t) m) p entry0 k ∙ get_or-drop (base_of t) m p entry0
 
-    here : logs_of now s ≡ (λ p. Empty)
+    here : logs_of now s ≡ (λ p. None)
     here =
         λ j p.
-        log_is now s p Empty
+        log_is now s p None
         (λ k.
         ap (λ (y : Entry). y.fill)
         (sym (part now s p k) ∙ ap (λ (m : List Entry). get_or m p entry0) (lay_there (base_of s) blanks l (omega arith)) ∙

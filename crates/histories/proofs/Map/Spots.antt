@@ -1,4 +1,5 @@
 -- The places of a step, and the pieces there: in a state in its ranges no remainder changes one, and the word is the one that the instruction names.
+use Rattle.std.specs.Prelude.{Option}
 use Prim.Native.Nat.{ℕ, ◌+◌, ◌%◌, ◌<◌}
 use native.Mathlib.Omega.{arith}
 use mathlib.Core.Path.{◌≡◌, refl, ◌∙◌, sym, ap, subst}
@@ -7,7 +8,6 @@ use lib.Seq.{get_or-take, get_or-drop}
 use Rattle.parts.specs.Instr.{word_of}
 use Rattle.parts.specs.Numbers.{workers, most_words, sheets, instructions}
 use Rattle.parts.specs.Parts.{instr0, reading_of}
-use Rattle.parts.specs.declared.Fill.{Fill}
 use Rattle.parts.specs.declared.Instr.{Instr}
 use Rattle.steps.specs.Places.{run_spot, spot_of}
 use Rattle.steps.specs.declared.Point.{Point}
@@ -31,6 +31,7 @@ use Rattle.histories.proofs.Map.Map.{scene_of, Under}
 use Rattle.histories.proofs.Map.Moves.{target_is}
 use Rattle.histories.proofs.Map.Put.{log_here}
 use Rattle.ranges.proofs.Programs.{program_length_lem}
+use Rattle.parts.specs.declared.Reading.{Reading}
 
 run_in :
     (K : Rules) (E : Scene) → K.most ≡ instructions → (r : Run) → RunIn K E r →
@@ -99,8 +100,8 @@ module _ (e : Engine) (w : ℕ) (p : Point) where
     entry_back =
         let s = (spot_at e w p).sheet in
         let n = (spot_at e w p).place in
-        ap (λ (z : Fill). put (scene_of e).log s (put ((scene_of e).log s) n z)) (sym entry_is) ∙
-        ap (λ (x : ℕ → Fill). put (scene_of e).log s x) (put_idle_lem ((scene_of e).log s) n _ refl)
+        ap (λ (z : Option Reading). put (scene_of e).log s (put ((scene_of e).log s) n z)) (sym entry_is) ∙
+        ap (λ (x : ℕ → Option Reading). put (scene_of e).log s x) (put_idle_lem ((scene_of e).log s) n _ refl)
 
     pub log_back :
         put (scene_of e).log (spot_at e w p).sheet

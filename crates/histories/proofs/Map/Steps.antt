@@ -1,4 +1,5 @@
 -- Each accepted call is a step of the theory's machine.
+use Rattle.std.specs.Prelude.{Option, Some}
 use Prim.Native.Nat.{ℕ, suc, ◌+◌, ◌*◌, ◌-◌, ◌^◌, ◌≤◌, ◌<◌}
 use native.Mathlib.Omega.{arith}
 use mathlib.Core.Path.{◌≡◌, refl, ◌∙◌, sym, ap, subst}
@@ -8,8 +9,6 @@ use lib.ListN.{length}
 use Rattle.parts.specs.Numbers.{workers, instructions, last_turn}
 use Rattle.parts.specs.Parts as parts
 use Rattle.parts.specs.Parts.{next32, reading_of, committed_of, is_first}
-use Rattle.parts.specs.declared.Fill.{Fill}
-use Rattle.parts.specs.declared.Fill.TheVariants.{Filled}
 use Rattle.parts.specs.declared.Instr.{Instr}
 use Rattle.parts.specs.declared.LockWord.{LockWord}
 use Rattle.parts.specs.declared.Reading.{Reading}
@@ -50,7 +49,7 @@ use Rattle.histories.proofs.Map.Spots.{exact_of, view_of, word_back, lock_back, 
 module _ (K : Rules) (e : Engine) (g : Good e) (u : Under K e) (r : Ranged K (scene_of e)) (w : ℕ) (h : w < workers) where
   -- a step that leaves the pieces of v, and the worker in state s: each part of the scene has its piece put in
   stepped :
-      {W : ℕ → Reading} {L : ℕ → LockWord} {D : ℕ → Bool} {M : ℕ → ℕ → Fill} (p : Point) → (worker_at e w).state ≡ UnderWay p →
+      {W : ℕ → Reading} {L : ℕ → LockWord} {D : ℕ → Bool} {M : ℕ → ℕ → Option Reading} (p : Point) → (worker_at e w).state ≡ UnderWay p →
       (v : View) (s : State) → effect_of p (view_of e w p) ≡ to_of v s → hand_of v.worker ≡ hand_of (worker_at e w) →
       put (scene_of e).word (places_of e w p).word (reading_of v.word) ≡ W →
       put (scene_of e).lock (worker_at e w).lock v.lock ≡ L →
@@ -129,12 +128,12 @@ module _ (K : Rules) (e : Engine) (g : Good e) (u : Under K e) (r : Ranged K (sc
       let act = act_in e w p c in
       let t = subst (λ (n : Instr). Logs (act_of n c.registers)) a.instr i.1 in
       let z = entry_is e w p (place_of p q) in
-      let filled : (committed_of v.entry y).fill ≡ Filled (held_of (x.log c.place) y) =
-      committed_is v.entry y ∙ ap (λ (s : Fill). Filled (held_of s y)) (sym z) in
+      let filled : (committed_of v.entry y).fill ≡ Some (held_of (x.log c.place) y) =
+      committed_is v.entry y ∙ ap (λ (s : Option Reading). Some (held_of s y)) (sym z) in
       let to = machine.machine_commit act x c y in
       stepped p q (view_with_entry v (committed_of v.entry y) (counted_of v.worker (is_first v.entry))) (UnderWay (point_of to))
       (commit_is v c y x t z (omega (arith, a.far)) (omega (arith, a.place))) refl (word_back e w p) (lock_back e w p)
-      (done_back e w p) (ap (λ (s : Fill). put (scene_of e).log c.sheet (put x.log c.place s)) filled) ∙
+      (done_back e w p) (ap (λ (s : Option Reading). put (scene_of e).log c.sheet (put x.log c.place s)) filled) ∙
       ap (λ (s : Shared). paced_by c (record { shared = s; run = to.run; stage = to.stage }))
       (sym (commit_shares act x c y t)) ∙
       ap (λ (n : Instr). paced_by c (machine.machine_commit (act_of n c.registers) x c y)) (sym a.instr)

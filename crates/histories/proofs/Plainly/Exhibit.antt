@@ -1,4 +1,5 @@
 -- No empty promise: after job A ended on setup S, worker 1 begins it again on the free lock, alone; what is said of that computes.
+use Rattle.std.specs.Prelude.{None, Ok}
 use Prim.Native.Nat.{◌<◌}
 use native.Mathlib.Omega.{arith}
 use mathlib.Core.Path.{◌≡◌, refl}
@@ -10,8 +11,6 @@ use Rattle.parts.specs.Numbers.{workers, last_turn}
 use Rattle.parts.specs.Parts as parts
 use Rattle.parts.specs.Parts.{committed_of, holds_of, is_first, register_of, with_register, worn_of}
 use Rattle.parts.specs.declared.Answer.TheVariants.{RanYes}
-use Rattle.parts.specs.declared.Holder.TheVariants.{Free}
-use Rattle.parts.specs.declared.Told.TheVariants.{Accepted}
 use Rattle.records.specs.Bytes.{u32s_of}
 use Rattle.records.specs.Job.{badly_formed, code_told, instr_told, instrs_of, told_by, job_told, strays_at}
 use Rattle.records.specs.Setup.{guards_told, setup_told, turns_told}
@@ -21,33 +20,32 @@ use Rattle.steps.specs.Try as try
 use Rattle.steps.specs.Worker as worker
 use Rattle.steps.specs.declared.State.TheVariants.{Idle}
 use Rattle.engine.specs.Step.{places_of, put_at, view_at}
-use Rattle.engine.specs.declared.CollectTold.{CollectTold}
 use Rattle.engine.specs.Calls.{begin_of, begin_told, begun_of, collect_of, drop_of, fresh_of, setup_of, step_of}
 use Rattle.engine.specs.State.{blank_of, lock_at, worker_at, words_of, lock_count}
 use Rattle.past.specs.Past.{AllRecords}
 use Rattle.tables.specs.Table.{setup_s, job_a, job_skipping}
 use Rattle.tables.proofs.Bytes.{job_bytes_lem}
 use Rattle.alone.specs.Alone.{alone_from}
-use Rattle.plain.specs.Plain.{plain_told, plain_of, plain_left}
-use Rattle.plain.specs.declared.PlainTold.TheVariants.{Ran}
+use Rattle.plain.specs.Plain.{ran, plain_told, plain_of, plain_left}
 use mathlib.Core.Bool.{true}
 use Rattle.histories.specs.History.{then_of, follow, sofar}
 use Rattle.histories.specs.Plainly.{plain_on, plainly_left, alone_then, RunsPlainly}
 use Rattle.histories.proofs.Demand.Cuts.{ended}
 use Rattle.histories.proofs.Plainly.Plainly.{plainly}
+use Rattle.engine.specs.Calls.{answered}
 
 pub record Again : Type 0 where
   -- the premises
   pub seat : 1 < workers
   pub idle : (worker_at (sofar ended).state 1).state ≡ Idle
   pub lock : 0 < lock_count (sofar ended).state
-  pub free : (lock_at (sofar ended).state 0).holder ≡ Free
+  pub free : (lock_at (sofar ended).state 0).holder ≡ None
   pub below : (lock_at (sofar ended).state 0).turn < last_turn
-  pub valid : job_told job_a 0 (guards_of (words_of (sofar ended).state)) ≡ Accepted
+  pub valid : job_told job_a 0 (guards_of (words_of (sofar ended).state)) ≡ Ok tt
   -- the plain engine: yes, after five instructions, and word 0 is 7; the worker alone: the same
-  pub plain : plain_on (sofar ended).state 0 job_a ≡ Ran true 5
+  pub plain : plain_on (sofar ended).state 0 job_a ≡ Ok (ran true 5)
   pub left : plainly_left (sofar ended).state 0 job_a ≡ 7 ∷ 9 ∷ 7 ∷ []
-  pub answer : (collect_of (alone_then (sofar ended) 1 0 job_a) 1).told ≡ CollectTold.Answered RanYes 14 2
+  pub answer : (collect_of (alone_then (sofar ended) 1 0 job_a) 1).told ≡ Ok (answered RanYes 14 2)
   pub values : values_of (words_of (alone_then (sofar ended) 1 0 job_a)) ≡ 7 ∷ 9 ∷ 7 ∷ []
 
 pub again : Again

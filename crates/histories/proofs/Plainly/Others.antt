@@ -1,11 +1,11 @@
 -- A begin and the steps of one worker leave every other worker as it was.
+use Rattle.std.specs.Prelude.{Err, Ok}
 use Prim.Native.Nat.{ℕ, zero, suc, ◌<◌}
 use mathlib.Core.List.{List, ◌∷◌}
 use mathlib.Core.Logic.{◌≢◌}
 use mathlib.Core.Path.{◌≡◌, refl, ap, ◌∙◌}
 use Rattle.parts.specs.Numbers.{workers}
 use Rattle.parts.specs.declared.Refusal.TheVariants.{NotCollected, WorkerIdle}
-use Rattle.parts.specs.declared.Told.TheVariants.{Accepted, Refused}
 use Rattle.records.specs.Bytes.{AllBytes}
 use Rattle.steps.specs.Worker as steps
 use Rattle.steps.specs.declared.State.{State}
@@ -32,11 +32,11 @@ unfolding after
 stepped_there e g w h v d = go (worker_at e w).state refl
   where
     go : (t : State) → (worker_at e w).state ≡ t → worker_at (step_of e w).engine v ≡ worker_at e v
-    go Idle q = ap (λ (o : Outcome). worker_at o.engine v) (step_told_lem e w (Refused WorkerIdle) (told_in e w h Idle q))
+    go Idle q = ap (λ (o : Outcome). worker_at o.engine v) (step_told_lem e w (Err WorkerIdle) (told_in e w h Idle q))
     go (UnderWay p) q =
-        ap (λ (o : Outcome). worker_at o.engine v) (step_told_lem e w Accepted (told_in e w h (UnderWay p) q)) ∙
+        ap (λ (o : Outcome). worker_at o.engine v) (step_told_lem e w (Ok tt) (told_in e w h (UnderWay p) q)) ∙
         ap (λ (t : State). worker_at (steps.on_state t e (λ p. stepped_of e w p) (λ y. e)) v) q ∙ worker_there e g w h p v d
-    go (Finished a) q = ap (λ (o : Outcome). worker_at o.engine v) (step_told_lem e w (Refused NotCollected) (told_in e w h (Finished a) q))
+    go (Finished a) q = ap (λ (o : Outcome). worker_at o.engine v) (step_told_lem e w (Err NotCollected) (told_in e w h (Finished a) q))
 
 steps_there :
     (K : Rules) (x : Sofar) → Standing K x → (w : ℕ) → w < workers → (v : ℕ) → v ≢ w → (n : ℕ) →
@@ -54,5 +54,5 @@ unfolding follow after AllRecords
 others_there K x s w l rec bytes b v d n =
     steps_there K (then_of x (Begin w l rec)) (standing_then K x (Begin w l rec) s (bytes, tt)) w b.worker v d n ∙
     ap (λ (e : Engine). worker_at e v) (state_then x (Begin w l rec)) ∙
-    ap (λ (o : Outcome). worker_at o.engine v) (begin_told_lem x.state w l rec Accepted (told_accepted x.state w l rec b)) ∙
+    ap (λ (o : Outcome). worker_at o.engine v) (begin_told_lem x.state w l rec (Ok tt) (told_accepted x.state w l rec b)) ∙
     worker_begun x.state s.good w l rec b v ∙ put_other (worker_at x.state) w _ v d

@@ -1,4 +1,5 @@
 -- Request 05 of every history: what the theory says of a worker alone on a free lock, in the engine's words.
+use Rattle.std.specs.Prelude.{Err, None, Ok}
 use Prim.Native.Nat.{ℕ, suc, ◌<◌}
 use native.Mathlib.Omega.{arith}
 use mathlib.Core.Bool.{Bool, true, false}
@@ -15,12 +16,10 @@ use Rattle.parts.specs.Told.{on_told}
 use Rattle.parts.specs.Pick.{pick}
 use Rattle.parts.specs.declared.Answer.{Answer}
 use Rattle.parts.specs.declared.Answer.TheVariants.{RanYes, RanNo}
-use Rattle.parts.specs.declared.Holder.TheVariants.{Free}
 use Rattle.parts.specs.declared.Instr.{Instr}
 use Rattle.parts.specs.declared.LockWord.{LockWord}
 use Rattle.parts.specs.declared.Reading.{Reading}
-use Rattle.parts.specs.declared.Told.{Told}
-use Rattle.parts.specs.declared.Told.TheVariants.{Accepted}
+use Rattle.parts.specs.Told.{Told}
 use Rattle.parts.specs.declared.Word.{Word}
 use Rattle.records.specs.Bytes.{AllBytes}
 use Rattle.records.specs.Job.{job_of, job_told}
@@ -31,11 +30,10 @@ use Rattle.steps.specs.declared.State.TheVariants.{Idle, Finished}
 use Rattle.engine.specs.Calls.{collect_of}
 use Rattle.engine.specs.Inner.{Begins}
 use Rattle.engine.specs.State.{lock_count, word_count, worker_at, lock_at, word_at, words_of, free_sheet}
-use Rattle.engine.specs.declared.CollectTold.{CollectTold}
 use Rattle.engine.specs.declared.Engine.{Engine}
 use Rattle.engine.specs.declared.Outcome.{Outcome}
+use Rattle.plain.specs.Plain as plain
 use Rattle.plain.specs.Plain.{plain_told, ran_told, plain_of, plain_left}
-use Rattle.plain.specs.declared.PlainTold.TheVariants as plain
 use Rattle.past.specs.Past as past
 use Rattle.past.specs.Past.{Begin, AllRecords, Past}
 use Rattle.past.proofs.Accepted.{begin_told_lem}
@@ -53,8 +51,9 @@ use Rattle.histories.proofs.Plainly.Others.{others_there}
 use Rattle.histories.proofs.Rules.Records.{steps_records}
 use Rattle.histories.proofs.Rules.Rules.{job_fine, words_length, words_at}
 use Rattle.histories.proofs.Simulation.Standing.{Standing, standing_follow, standing_past}
+use Rattle.engine.specs.Calls.{answered}
 
-not_worn : (x : LockWord) → x.holder ≡ Free → x.turn < last_turn → worn_of x ≡ false
+not_worn : (x : LockWord) → x.holder ≡ None → x.turn < last_turn → worn_of x ≡ false
 unfolding worn_of
 not_worn x h b = rw (h, ne_eqb x.turn last_turn (λ z. omega arith))
 
@@ -72,16 +71,16 @@ guard_at : (e : Engine) (q : ℕ) → q < word_count e → get_or (guards_of (wo
 guard_at e q h = get_or-map (λ (x : Word). x.guard) (words_of e) q word0 ∙ ap (λ (x : Word). x.guard) (words_at e q h)
 
 -- what collect tells of a worker that has finished
-answered :
+answered_lem :
     (e : Engine) (w : ℕ) (a : Answer) → w < workers → (worker_at e w).state ≡ Finished a →
-    (collect_of e w).told ≡ CollectTold.Answered a (worker_at e w).steps (worker_at e w).filled
+    (collect_of e w).told ≡ Ok (answered a (worker_at e w).steps (worker_at e w).filled)
 unfolding collect_of steps.collect_by_state
-answered e w a h q = simp (lt-leb workers w h, q)
+answered_lem e w a h q = simp (lt-leb workers w h, q)
 
 module _
     (K : Rules) (x : Sofar) (s : Standing K x) (w l : ℕ) (rec : List ℕ) (seat : w < workers) (idle : (worker_at x.state w).state ≡ Idle)
-    (lock : l < lock_count x.state) (free : (lock_at x.state l).holder ≡ Free) (below : (lock_at x.state l).turn < last_turn)
-    (bytes : AllBytes rec) (job : job_told rec l (guards_of (words_of x.state)) ≡ Accepted) where
+    (lock : l < lock_count x.state) (free : (lock_at x.state l).holder ≡ None) (below : (lock_at x.state l).turn < last_turn)
+    (bytes : AllBytes rec) (job : job_told rec l (guards_of (words_of x.state)) ≡ Ok tt) where
   abbrev e : Engine
   e = x.state
 
@@ -132,7 +131,7 @@ module _
   alone = done_alone K J fine vs wide (λ q. refl) ran.n ran.said ran.halts
 
   -- the plain engine takes it
-  taken : plain_told vs (guards_of (words_of e)) l rec ≡ Accepted
+  taken : plain_told vs (guards_of (words_of e)) l rec ≡ Ok tt
   unfolding plain_told
   taken =
       let guards = guard_count e s.good in
@@ -140,11 +139,11 @@ module _
       let most = s.good.numbers.words in
       rw (eq-eqb (length vs) (length (guards_of (words_of e))) (values ∙ sym guards), le-ltb most_words (length vs) (omega arith), job)
 
-  plain_is : plain_of vs (guards_of (words_of e)) l rec ≡ plain.Ran ran.said (alone_of code vs).executed
+  plain_is : plain_of vs (guards_of (words_of e)) l rec ≡ Ok (plain.ran ran.said (alone_of code vs).executed)
   unfolding plain_of
   plain_is =
-      ap (λ (t : Told). on_told t (ran_told (alone_of code vs)) (λ r. plain.Refused r)) taken ∙
-      ap (λ (y : Bool). plain.Ran y (alone_of code vs).executed) alone.0
+      ap (λ (t : Told). on_told t (ran_told (alone_of code vs)) (λ r. Err r)) taken ∙
+      ap (λ (y : Bool). Ok (plain.ran y (alone_of code vs).executed)) alone.0
 
   left_is : plain_left vs (guards_of (words_of e)) l rec ≡ (alone_of code vs).words
   unfolding plain_left
@@ -201,13 +200,13 @@ module _
   pub runs_plainly : RunsPlainly x w l rec
   runs_plainly =
       record {
-        begun = ap (λ (o : Outcome). o.told) (begin_told_lem e w l rec Accepted (told_accepted e w l rec begins));
+        begun = ap (λ (o : Outcome). o.told) (begin_told_lem e w l rec (Ok tt) (told_accepted e w l rec begins));
         yes = ran.said;
         executed = (alone_of code vs).executed;
         plain = plain_is;
         steps = (worker_at then_state w).steps;
         filled = (worker_at then_state w).filled;
-        answer = answered then_state w (pick ran.said RanYes RanNo) seat ran.answer;
+        answer = answered_lem then_state w (pick ran.said RanYes RanNo) seat ran.answer;
         values = all_values ∙ sym left_is;
         guards = all_guards;
         lock = ran.lock;

@@ -1,5 +1,6 @@
 -- A job that is told accepted is one that the theory asks for: each of its instructions goes on inside the program, and names a
 -- word that the lock guards. The eight instructions enter once, in `sound`.
+use Rattle.std.specs.Prelude.{Ok}
 use Prim.Native.Nat.{ℕ, zero, suc, ◌+◌, ◌-◌, ◌≤◌, ◌<◌}
 use native.Mathlib.Omega.{arith}
 use mathlib.Core.Path.{◌≡◌, refl, ◌∙◌, sym, subst}
@@ -16,7 +17,6 @@ use Rattle.parts.specs.Told.{refuse_if}
 use Rattle.parts.specs.declared.Instr.{Instr}
 use Rattle.parts.specs.declared.Refusal.TheVariants.{Instruction, Guard}
 use Rattle.parts.specs.declared.Registers.{Registers}
-use Rattle.parts.specs.declared.Told.TheVariants.{Accepted}
 use Rattle.parts.proofs.Order.{first_all, both_pass, row_passes, neither, not_isnt}
 use Rattle.records.specs.Job.{job_of, no_register, badly_formed, ends_otherwise, strays, strays_at, instr_told, code_told, job_told}
 use Rattle.records.proofs.Form.{job_code}
@@ -75,7 +75,7 @@ module _ (lock : ℕ) (guards : List ℕ) (r : Registers) where
       tt
 
   instr_sound :
-      (i : Instr) (place left : ℕ) → instr_told i place left lock guards ≡ Accepted → Sound left lock guards (act_of i r)
+      (i : Instr) (place left : ℕ) → instr_told i place left lock guards ≡ Ok tt → Sound left lock guards (act_of i r)
   unfolding instr_told
   instr_sound i place left h =
       let rows =
@@ -87,7 +87,7 @@ module _ (lock : ℕ) (guards : List ℕ) (r : Registers) where
 
   -- each instruction of a program that is told accepted
   code_sound :
-      (code : List Instr) (place n left : ℕ) → code_told code place lock guards ≡ Accepted → n + suc left ≡ length code →
+      (code : List Instr) (place n left : ℕ) → code_told code place lock guards ≡ Ok tt → n + suc left ≡ length code →
       Sound left lock guards (act_at code n r)
   unfolding code_told
   code_sound [] place n left h q = absurd (omega arith)
@@ -119,7 +119,7 @@ sound_names left lock guards (touch w f) s t =
 -- a job that is told accepted on a lock is fine there, under rules that have these words and guards
 pub told_fine :
     (K : Rules) (rec : List ℕ) (l : ℕ) (guards : List ℕ) → K.most ≡ instructions → length K.values ≡ length guards →
-    ((q : ℕ) → q < length guards → get_or guards q 0 ≡ K.guard q) → job_told rec l guards ≡ Accepted → Fine K l (job_of rec)
+    ((q : ℕ) → q < length guards → get_or guards q 0 ≡ K.guard q) → job_told rec l guards ≡ Ok tt → Fine K l (job_of rec)
 told_fine K rec l guards most words g a =
     let size = job_size rec l guards a in
     record {

@@ -1,4 +1,5 @@
 -- Request 06's bound is reached: a history of calls after which 30 sheets are in use and a worker begins.
+use Rattle.std.specs.Prelude.{Ok}
 use Prim.Native.Nat.{ℕ, zero, suc}
 use mathlib.Core.Path.{◌≡◌, refl}
 use mathlib.Core.List.{List, [], ◌∷◌, ◌++◌}
@@ -7,7 +8,6 @@ use Rattle.parts.specs.Instr.{asks_of, follows_of, word_of}
 use Rattle.parts.specs.Lay.{lay}
 use Rattle.parts.specs.Parts as parts
 use Rattle.parts.specs.Parts.{committed_of, holds_of, is_first, register_of, with_register, worn_of}
-use Rattle.parts.specs.declared.Told.TheVariants.{Accepted}
 use Rattle.parts.specs.Numbers.{sheets}
 use Rattle.records.specs.Bytes.{AllBytes, u32s_of}
 use Rattle.records.specs.Job.{badly_formed, code_told, instr_told, instrs_of, told_by, strays_at}
@@ -77,7 +77,7 @@ pub record Full : Type 0 where
   pub idle : (worker_at (state_after full) 0).state ≡ Idle
   pub thirty : used_of (in_use (state_after full)) sheets ≡ 30
   pub next : free_sheet (state_after full) ≡ 30
-  pub begun : (begin_of (state_after full) 0 0 halting).told ≡ Accepted
+  pub begun : (begin_of (state_after full) 0 0 halting).told ≡ Ok tt
 
 pub thirty_used : Full
 unfolding words_from asks_of follows_of word_of lay parts.grab_of parts.release_of parts.swap_of committed_of holds_of is_first worker.counted_of register_of with_register worn_of u32s_of badly_formed code_told instr_told instrs_of told_by strays_at guards_told setup_told turns_told any_of in_use_of lowest_of helped_of spot_of try.answer_of try.commit_step try.effect_of try.follow_step try.grab_step try.look_again_step try.look_step try.mark_step try.read_mark_step try.read_step try.release_step try.swap_step worker.began_of worker.begin_by_state worker.collect_by_state worker.collected_of worker.drop_by_state worker.dropped_of worker.step_by_state begin_of begin_told begun_of collect_of drop_of fresh_of setup_of step_of blank_of places_of put_at view_at after after_all used_of setup16 halting each full

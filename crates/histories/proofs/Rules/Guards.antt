@@ -1,5 +1,6 @@
 -- No call changes a word's guard, or the number of words: of a word a step changes the value and the count only, and no other
 -- call changes a word at all.
+use Rattle.std.specs.Prelude.{Err, None, Option, Some}
 use Prim.Native.Nat.{ℕ}
 use mathlib.Core.Path.{◌≡◌, refl}
 use lib.Dec.{eqb}
@@ -7,11 +8,8 @@ use Rattle.parts.specs.Instr.{asks_of, follows_of}
 use Rattle.parts.specs.Numbers.{last_turn}
 use Rattle.parts.specs.Parts as parts
 use Rattle.parts.specs.Parts.{word0, holds_of}
-use Rattle.parts.specs.Pick.{on_holder}
-use Rattle.parts.specs.declared.Holder.{Holder}
-use Rattle.parts.specs.declared.Holder.TheVariants.{Free, By}
-use Rattle.parts.specs.declared.Told.{Told}
-use Rattle.parts.specs.declared.Told.TheVariants.{Refused}
+use Rattle.parts.specs.Pick.{on_option}
+use Rattle.parts.specs.Told.{Told}
 use Rattle.parts.specs.declared.Word.{Word}
 use Rattle.alone.proofs.Bounds.{asks_all, follows_all}
 use Rattle.steps.specs.Try.{look_step, grab_step, look_again_step, read_mark_step, read_step, follow_step, commit_step, swap_step, mark_step, release_step, effect_of}
@@ -22,7 +20,7 @@ use Rattle.steps.specs.declared.View.{View}
 use Rattle.engine.specs.State.{worker_at, word_at}
 use Rattle.engine.specs.Step.{places_of, view_at, put_at, stepped_of}
 use Rattle.engine.specs.Calls.{outcome_of, begun_of, begin_told, begin_of, step_told, onward_of, step_of, collect_told, collect_of, drop_told, drop_of}
-use Rattle.engine.specs.declared.Collected.{Collected}
+use Rattle.engine.specs.Calls.{Collected}
 use Rattle.engine.specs.declared.Engine.{Engine}
 use Rattle.engine.specs.declared.Outcome.{Outcome}
 use Rattle.past.specs.Past.{Call, Begin, Step, Collect, Drop, ReadWord, ReadLock, Show, Park, after}
@@ -31,9 +29,9 @@ use Rattle.ranges.proofs.Laid.{set_same}
 
 -- by the case of a holder: where each way has it
 pub holder_each :
-    {A : Type 0} (P : A → Type 0) (h : Holder) (a : A) (f : ℕ → A) → P a → ((s : ℕ) → P (f s)) → P (on_holder h a f)
-holder_each P Free a f p q = p
-holder_each P (By s) a f p q = q s
+    {A : Type 0} (P : A → Type 0) (h : Option ℕ) (a : A) (f : ℕ → A) → P a → ((s : ℕ) → P (f s)) → P (on_option h a f)
+holder_each P None a f p q = p
+holder_each P (Some s) a f p q = q s
 
 module _ (v : View) where
   abbrev Same : View → Type 0
@@ -77,7 +75,7 @@ stepped_guards e w p =
 outcome_guards :
     (e : Engine) (told : Told) (next : Engine) → Guarding e next → Guarding e (outcome_of e told next).engine
 outcome_guards e told next h =
-    told_all (λ (o : Outcome). Guarding e o.engine) told _ (λ r. record { engine = e; told = Refused r }) (λ t. h)
+    told_all (λ (o : Outcome). Guarding e o.engine) told _ (λ r. record { engine = e; told = Err r }) (λ t. h)
     (λ r q. itself e)
 
 pub guards_after : (e : Engine) (c : Call) → Guarding e (after e c)

@@ -1,4 +1,5 @@
 -- What the theory asks of a setup, of a job that begin takes and of the sheet that it takes; and that the rules stay.
+use Rattle.std.specs.Prelude.{None, Ok, Option, Some}
 use Prim.Native.Nat.{ℕ, zero, suc, ◌+◌, ◌-◌, ◌≤◌, ◌<◌}
 use native.Mathlib.Omega.{arith}
 use mathlib.Core.Path.{◌≡◌, refl, ◌∙◌, sym, ap}
@@ -15,11 +16,7 @@ use Rattle.parts.specs.Numbers.{workers, sheets, most_locks, most_words, instruc
 use Rattle.parts.specs.Parts.{word0, entry0, lock0}
 use Rattle.parts.specs.Pick.{◌or◌}
 use Rattle.parts.specs.declared.Entry.{Entry}
-use Rattle.parts.specs.declared.Fill.TheVariants.{Empty}
-use Rattle.parts.specs.declared.Holder.TheVariants.{Free, By}
-use Rattle.parts.specs.declared.Holder.{Holder}
 use Rattle.parts.specs.declared.LockWord.{LockWord}
-use Rattle.parts.specs.declared.Told.TheVariants.{Accepted}
 use Rattle.parts.specs.declared.Word.{Word}
 use Rattle.parts.proofs.Order.{neither, below_or_not}
 use Rattle.records.specs.Bytes.{AllBytes}
@@ -78,7 +75,7 @@ lay_past xs n d k h l =
 -- a state whose sheets, entries and workers are those of the blank state, with free locks, with words that never changed
 made_fresh :
     (e : Engine) → Good e → e.sheet ≡ blank_of.sheet → e.entry ≡ blank_of.entry → e.worker ≡ blank_of.worker →
-    ((l : ℕ) → (lock_at e l).holder ≡ Free) → ((q : ℕ) → (word_at e q).count ≡ 0) →
+    ((l : ℕ) → (lock_at e l).holder ≡ None) → ((q : ℕ) → (word_at e q).count ≡ 0) →
     ((q : ℕ) → word_count e ≤ q → word_at e q ≡ word0) → Fresh (rules_of e) (scene_of e)
 unfolding blank_of
 made_fresh e g s t w l c p =
@@ -94,9 +91,9 @@ made_fresh e g s t w l c p =
           replicate_all (λ x. x.done ≡ false) sheets sheet0 refl k;
       empty =
           λ k n.
-          pick_all (λ x. x ≡ Empty) (ltb n instructions) _ Empty
+          pick_all (λ x. x ≡ None) (ltb n instructions) _ None
           (ap (λ (xs : List Entry). (get_or xs (base_of k + n) entry0).fill) t ∙
-          replicate_all (λ x. x.fill ≡ Empty) entries entry0 refl (base_of k + n))
+          replicate_all (λ x. x.fill ≡ None) entries entry0 refl (base_of k + n))
           refl;
     }
   where
@@ -113,12 +110,12 @@ fresh_is rec b =
     told_all (λ (o : Outcome). Good o.engine → Fresh (rules_of o.engine) (scene_of o.engine)) (setup_told rec) _ _
     (λ h g. made_fresh (fresh_of rec) g refl refl refl (fresh_free rec) (fresh_counts rec) (past h))
     (λ r h g.
-    made_fresh blank_of g refl refl refl (replicate_all (λ x. x.holder ≡ Free) most_locks lock0 refl)
+    made_fresh blank_of g refl refl refl (replicate_all (λ x. x.holder ≡ None) most_locks lock0 refl)
     (replicate_all (λ x. x.count ≡ 0) most_words word0 refl)
     (λ q k. replicate_all (λ x. x ≡ word0) most_words word0 refl q))
     (good_setup rec b)
   where
-    past : setup_told rec ≡ Accepted → (q : ℕ) → word_count (fresh_of rec) ≤ q → word_at (fresh_of rec) q ≡ word0
+    past : setup_told rec ≡ Ok tt → (q : ℕ) → word_count (fresh_of rec) ≤ q → word_at (fresh_of rec) q ≡ word0
     past h q k =
         let z = (setup_sized rec h).words in
         let n = guards_count rec h in
@@ -149,7 +146,7 @@ under_after K e c g u =
 -- a job that is told accepted on lock l is fine there
 pub job_fine :
     (K : Rules) (e : Engine) → Good e → Under K e → (rec : List ℕ) (l : ℕ) →
-    job_told rec l (guards_of (words_of e)) ≡ Accepted → Fine K l (job_of rec)
+    job_told rec l (guards_of (words_of e)) ≡ Ok tt → Fine K l (job_of rec)
 job_fine K e g u rec l a =
     let size : length (guards_of (words_of e)) ≡ word_count e =
     length-map (words_of e) (λ w. w.guard) ∙ words_length e g in
@@ -169,9 +166,9 @@ none_has has (x ∷ xs) d e h zero = (neither (has x) (any_of has xs) e).0
 none_has has (x ∷ xs) d e h (suc k) = none_has has xs d (neither (has x) (any_of has xs) e).1 h k
 
 -- a holder that does not name a sheet is not that sheet
-not_named : (h : Holder) (s : ℕ) → names h s ≡ false → h ≢ By s
+not_named : (h : Option ℕ) (s : ℕ) → names h s ≡ false → h ≢ Some s
 not_named h s e q =
-    let z : ◌≡◌ {A = ℕ} 0 1 = cc (ap (λ (x : Holder). names x s) q, eq-eqb s s refl) in
+    let z : ◌≡◌ {A = ℕ} 0 1 = cc (ap (λ (x : Option ℕ). names x s) q, eq-eqb s s refl) in
     omega arith
 
 -- a sheet that a worker under way does not keep
@@ -198,7 +195,7 @@ free_unused e g w l rec b =
     }
 
 -- a lock that is held is one of the L locks
-pub held_below : (p : Past) (l s : ℕ) → (lock_at (state_after p) l).holder ≡ By s → l < lock_count (state_after p)
+pub held_below : (p : Past) (l s : ℕ) → (lock_at (state_after p) l).holder ≡ Some s → l < lock_count (state_after p)
 held_below p l s h =
     ⊎_elim (λ q. q) (λ q. absurd (never q)) (below_or_not l (lock_count (state_after p)))
   where

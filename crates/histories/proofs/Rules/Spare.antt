@@ -1,5 +1,6 @@
 -- The places of the lock array past L: they are free from setup on, and no call touches them. So a sheet is in use exactly when
 -- one of the L locks names it, or a worker under way has it.
+use Rattle.std.specs.Prelude.{Ok}
 use Prim.Native.Nat.{ℕ, zero, suc, ◌-◌, ◌<◌}
 use native.Mathlib.Omega.{arith}
 use mathlib.Core.Path.{◌≡◌, refl, ◌∙◌, sym, ap}
@@ -12,8 +13,7 @@ use Rattle.parts.specs.Numbers.{most_locks}
 use Rattle.parts.specs.Parts.{lock0}
 use Rattle.parts.specs.Pick.{◌or◌}
 use Rattle.parts.specs.declared.LockWord.{LockWord}
-use Rattle.parts.specs.declared.Told.{Told}
-use Rattle.parts.specs.declared.Told.TheVariants.{Accepted}
+use Rattle.parts.specs.Told.{Told}
 use Rattle.records.specs.Setup.{locks_field, turns_field, setup_told}
 use Rattle.records.proofs.One.{setup_sized, turns_count}
 use Rattle.sheets.specs.Sheets.{any_of, lock_names, worker_keeps, in_use_of}
@@ -24,7 +24,7 @@ use Rattle.steps.specs.declared.State.TheVariants.{UnderWay}
 use Rattle.engine.specs.State.{blank_of, lock_count, locks_of, in_use, worker_at}
 use Rattle.engine.specs.Step.{places_of, put_at, stepped_of}
 use Rattle.engine.specs.Calls.{outcome_of, fresh_of, setup_of, begun_of, begin_told, begin_of, step_told, onward_of, step_of, collect_told, collect_of, drop_told, drop_of}
-use Rattle.engine.specs.declared.Collected.{Collected}
+use Rattle.engine.specs.Calls.{Collected}
 use Rattle.engine.specs.declared.Engine.{Engine}
 use Rattle.engine.specs.declared.Outcome.{Outcome}
 use Rattle.ranges.specs.Good.{Good}
@@ -46,7 +46,7 @@ drop-replicate (suc n) (suc m) x =
     let e : m - n ≡ suc m - suc n = omega arith in
     drop-replicate n m x ∙ ap (λ (k : ℕ). replicate k x) e
 
-fresh_spare : (rec : List ℕ) → setup_told rec ≡ Accepted → Spare (fresh_of rec)
+fresh_spare : (rec : List ℕ) → setup_told rec ≡ Ok tt → Spare (fresh_of rec)
 unfolding fresh_of
 fresh_spare rec h =
     let z = setup_sized rec h in
@@ -60,7 +60,7 @@ fresh_spare rec h =
     drop-replicate (locks_field rec) most_locks lock0
 
 outcome_spare :
-    (e : Engine) (told : Told) (next : Engine) → Spare e → (told ≡ Accepted → Spare next) →
+    (e : Engine) (told : Told) (next : Engine) → Spare e → (told ≡ Ok tt → Spare next) →
     Spare (outcome_of e told next).engine
 outcome_spare e told next g h =
     told_all (λ (o : Outcome). Spare o.engine) told _ (λ r. record { engine = e; told = _ }) h (λ r q. g)

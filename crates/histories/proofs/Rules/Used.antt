@@ -1,5 +1,6 @@
 -- Request 06: how many sheets are in use at a begin, and which one it takes, of every state that calls gave; and that what it tells looks at
 -- none of them.
+use Rattle.std.specs.Prelude.{Err, Ok}
 use Prim.Native.Nat.{ℕ, ◌<◌, ◌≤◌}
 use native.Mathlib.Omega.{arith}
 use mathlib.Core.Bool.{Bool}
@@ -13,8 +14,7 @@ use Rattle.parts.specs.Numbers.{workers, sheets}
 use Rattle.parts.specs.Parts.{worn_of}
 use Rattle.parts.specs.Told.{refuse_if, ◌then◌}
 use Rattle.parts.specs.declared.Refusal.TheVariants.{NoWorker, NoLock, LastTurn}
-use Rattle.parts.specs.declared.Told.{Told}
-use Rattle.parts.specs.declared.Told.TheVariants.{Accepted, Refused}
+use Rattle.parts.specs.Told.{Told}
 use Rattle.records.specs.Job.{job_told}
 use Rattle.sheets.specs.Counted.{used_of, most_used}
 use Rattle.sheets.specs.Sheets.{in_use_of}
@@ -38,8 +38,8 @@ use Rattle.histories.proofs.Rules.Spare.{in_use_locks}
 
 -- what a begin tells is the first row that refuses
 outcome_told : (e : Engine) (t : Told) (next : Engine) → (outcome_of e t next).told ≡ t
-outcome_told e Accepted next = refl
-outcome_told e (Refused r) next = refl
+outcome_told e (Ok _) next = refl
+outcome_told e (Err r) next = refl
 
 begin_tells : (e : Engine) (w l : ℕ) (rec : List ℕ) → (begin_of e w l rec).told ≡ begin_told e w l rec
 unfolding begin_of
@@ -56,11 +56,11 @@ own_taken e g w l rec b =
     (get_or-set_same e.worker w _ worker0 (omega arith) ∙ looks (worker_at e w) l (free_sheet e) b.idle)
 
 takes_lowest :
-    (e : Engine) → Good e → (w l : ℕ) (rec : List ℕ) → begin_told e w l rec ≡ Accepted →
+    (e : Engine) → Good e → (w l : ℕ) (rec : List ℕ) → begin_told e w l rec ≡ Ok tt →
     LowestFree e (worker_at (begin_of e w l rec).engine w).own
 takes_lowest e g w l rec h =
     let b = begins e w l rec h in
-    let own = ap (λ (o : Outcome). (worker_at o.engine w).own) (begin_told_lem e w l rec Accepted h) ∙ own_taken e g w l rec b in
+    let own = ap (λ (o : Outcome). (worker_at o.engine w).own) (begin_told_lem e w l rec (Ok tt) h) ∙ own_taken e g w l rec b in
     let lowest = free_lowest e g w b.worker (idle_of (worker_at e w) b.idle) in
     subst (LowestFree e) (sym own) (record { sheet = sheet_taken e; free = lowest.0; below = lowest.1 })
 

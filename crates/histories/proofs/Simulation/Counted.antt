@@ -1,12 +1,11 @@
 -- A step of a worker counts as one, and no other call counts.
+use Rattle.std.specs.Prelude.{None, Option, Some}
 use Prim.Native.Nat.{ℕ, suc}
 use mathlib.Core.Path.{◌≡◌, refl, sym, ap, subst}
 use mathlib.Core.Bool.{Bool, true, false}
 use lib.Dec.{eqb}
-use Rattle.parts.specs.Pick.{pick, on_holder}
+use Rattle.parts.specs.Pick.{pick, on_option}
 use Rattle.parts.specs.declared.Answer.TheVariants.{NotTaken, Worn}
-use Rattle.parts.specs.declared.Holder.{Holder}
-use Rattle.parts.specs.declared.Holder.TheVariants.{Free, By}
 use Rattle.parts.specs.declared.LockWord.{LockWord}
 use Rattle.steps.specs.Try.{start_of}
 use Rattle.steps.specs.Worker.{worker0}
@@ -35,11 +34,11 @@ unfolding look_to
 busy_look last l = go l.holder (eqb l.turn last)
   where
     go :
-        (h : Holder) (b : Bool) →
-        NotIdle (on_holder h (pick b (Finished Worn) (UnderWay (Grab l.turn))) (λ s. UnderWay (Point.Run (start_of s l.turn) Read)))
-    go Free true = tt
-    go Free false = tt
-    go (By s) b = tt
+        (h : Option ℕ) (b : Bool) →
+        NotIdle (on_option h (pick b (Finished Worn) (UnderWay (Grab l.turn))) (λ s. UnderWay (Point.Run (start_of s l.turn) Read)))
+    go None true = tt
+    go None false = tt
+    go (Some s) b = tt
 
 busy_mark : (done : Bool) (seen : LockWord) (won own : ℕ) → NotIdle (mark_to done seen won own)
 unfolding mark_to
@@ -51,12 +50,12 @@ busy_mark false seen won own = go seen.holder
     same s false = tt
 
     go :
-        (h : Holder) →
+        (h : Option ℕ) →
         NotIdle
-        (on_holder h (Finished NotTaken)
+        (on_option h (Finished NotTaken)
         (λ s. pick (eqb s own) (UnderWay (Point.Run (start_of own won) Read)) (UnderWay (Point.Run (start_of s seen.turn) Read))))
-    go Free = tt
-    go (By s) = same s (eqb s own)
+    go None = tt
+    go (Some s) = same s (eqb s own)
 
 pub stepped_worker : (K : Rules) (E : Scene) (i : ℕ) (k : Worker) (p : Point) → SteppedBy K E i k p
 unfolding step_at

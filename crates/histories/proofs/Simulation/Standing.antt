@@ -1,10 +1,10 @@
 -- Every history keeps the theory's invariant: of each call by the simulation, and so of all of them.
+use Rattle.std.specs.Prelude.{Err, Ok}
 use Prim.Native.Nat.{ℕ}
 use mathlib.Core.Path.{◌≡◌, refl, sym, ap, ◌∙◌, subst}
 use mathlib.Core.List.{List, [], ◌∷◌}
 use Rattle.parts.specs.Told.{on_told}
-use Rattle.parts.specs.declared.Told.{Told}
-use Rattle.parts.specs.declared.Told.TheVariants.{Accepted, Refused}
+use Rattle.parts.specs.Told.{Told}
 use Rattle.records.specs.Bytes.{AllBytes}
 use Rattle.steps.specs.declared.Worker.{Worker}
 use Rattle.engine.specs.Calls.{setup_of, outcome_of, begin_told, begin_of, step_told, step_of}
@@ -39,21 +39,21 @@ pub record Standing (K : Rules) (x : Sofar) : Type 0 where
 
 -- one call: the state, the invariant, the steps, a try that is over
 refused_same : (e : Engine) (t : Told) (next : Engine) → (outcome_of e t next).engine ≡ on_told t next (λ r. e)
-refused_same e Accepted next = refl
-refused_same e (Refused r) next = refl
+refused_same e (Ok _) next = refl
+refused_same e (Err r) next = refl
 
 pub state_then : (x : Sofar) (c : Call) → (then_of x c).state ≡ after x.state c
 unfolding then_of after
 state_then x (Begin w l rec) = go (begin_told x.state w l rec) refl
   where
     go : (t : Told) → begin_told x.state w l rec ≡ t → (then_of x (Begin w l rec)).state ≡ (begin_of x.state w l rec).engine
-    go Accepted q = rw (begin_told_lem x.state w l rec Accepted q)
-    go (Refused r) q = rw (begin_told_lem x.state w l rec (Refused r) q)
+    go (Ok _) q = rw (begin_told_lem x.state w l rec (Ok tt) q)
+    go (Err r) q = rw (begin_told_lem x.state w l rec (Err r) q)
 state_then x (Step w) = go (step_told x.state w) refl
   where
     go : (t : Told) → step_told x.state w ≡ t → (then_of x (Step w)).state ≡ (step_of x.state w).engine
-    go Accepted q = rw (step_told_lem x.state w Accepted q)
-    go (Refused r) q = rw (step_told_lem x.state w (Refused r) q)
+    go (Ok _) q = rw (step_told_lem x.state w (Ok tt) q)
+    go (Err r) q = rw (step_told_lem x.state w (Err r) q)
 state_then x (Collect w) = refl
 state_then x (Drop w) = refl
 state_then x (ReadWord i) = refl

@@ -1,13 +1,12 @@
 -- The tale of a step: only a grab that takes its lock turns a lock from free to held.
+use Rattle.std.specs.Prelude.{None, Option, Some}
 use Prim.Native.Nat.{ℕ, suc}
 use mathlib.Core.Path.{◌≡◌, refl, sym, ap, subst}
 use mathlib.Core.Bool.{Bool, true, false}
 use mathlib.Core.List.{◌∷◌}
 use lib.Dec.{eqb}
 use borrow.Author.Tests.{eqb-true}
-use Rattle.parts.specs.Pick.{pick, on_holder}
-use Rattle.parts.specs.declared.Holder.{Holder}
-use Rattle.parts.specs.declared.Holder.TheVariants.{Free, By}
+use Rattle.parts.specs.Pick.{pick, on_option}
 use Rattle.parts.specs.declared.LockWord.{LockWord}
 use Rattle.steps.specs.declared.Point.{Point}
 use Rattle.steps.specs.declared.Point.TheVariants.{Look, Grab, LookAgain, ReadMark}
@@ -19,9 +18,9 @@ use Rattle.histories.specs.History.{won_by}
 holds_still : (l : LockWord) → won_by l l ≡ false
 holds_still l = go l.holder refl
   where
-    go : (h : Holder) → l.holder ≡ h → won_by l l ≡ false
-    go Free e = rw e
-    go (By s) e = rw e
+    go : (h : Option ℕ) → l.holder ≡ h → won_by l l ≡ false
+    go None e = rw e
+    go (Some s) e = rw e
 
 put_still : (f : ℕ → LockWord) (k : ℕ) (x : LockWord) → won_by (f k) x ≡ false → (l : ℕ) → won_by (f l) (put f k x l) ≡ false
 put_still f k x h l = go (eqb l k) refl
@@ -34,9 +33,9 @@ release_still : (l : LockWord) (won s : ℕ) → won_by l (machine_release l won
 unfolding machine_release
 release_still l won s = go l.holder refl
   where
-    go : (h : Holder) → l.holder ≡ h → won_by l (machine_release l won s) ≡ false
-    go Free e = rw e
-    go (By t) e = rw e
+    go : (h : Option ℕ) → l.holder ≡ h → won_by l (machine_release l won s) ≡ false
+    go None e = rw e
+    go (Some t) e = rw e
 
 -- what a step makes of the won tries, where no lock was won
 none_won : (T : Tale) (i : ℕ) (f g : ℕ → LockWord) → ((l : ℕ) → won_by (f l) (g l) ≡ false) →
@@ -66,14 +65,14 @@ unfolding machine_grab grab_tale
 grabbed T i k f seen own = go (f k).holder (eqb (f k).turn seen) refl
   where
     go :
-        (h : Holder) (b : Bool) → (f k).holder ≡ h →
+        (h : Option ℕ) (b : Bool) → (f k).holder ≡ h →
         (λ l.
-        pick (won_by (f l) (put f k (on_holder h (pick b (record { turn = suc seen; holder = By own }) (f k)) (λ s. f k)) l))
+        pick (won_by (f l) (put f k (on_option h (pick b (record { turn = suc seen; holder = Some own }) (f k)) (λ s. f k)) l))
         (T.tries i ∷ T.won l) (T.won l)) ≡
-        (on_holder h (pick b (win_tale T i k) T) (λ s. T)).won
-    go Free true e = one_won T i k f _ (ap (λ (h : Holder). on_holder h true (λ s. false)) e)
-    go Free false e = none_won T i f (put f k (f k)) (put_still f k (f k) (holds_still (f k)))
-    go (By s) b e = none_won T i f (put f k (f k)) (put_still f k (f k) (holds_still (f k)))
+        (on_option h (pick b (win_tale T i k) T) (λ s. T)).won
+    go None true e = one_won T i k f _ (ap (λ (h : Option ℕ). on_option h true (λ s. false)) e)
+    go None false e = none_won T i f (put f k (f k)) (put_still f k (f k) (holds_still (f k)))
+    go (Some s) b e = none_won T i f (put f k (f k)) (put_still f k (f k) (holds_still (f k)))
 
 pub won_is : (K : Rules) (T : Tale) (E : Scene) (i : ℕ) (k : Worker) (p : Point) →
     (λ l. pick (won_by (E.lock l) ((step_at K E i k p).lock l)) (T.tries i ∷ T.won l) (T.won l)) ≡ (step_tale T E i k p).won
@@ -99,12 +98,12 @@ only_won T E i k Look = refl
 only_won T E i k (Grab seen) = go (E.lock k.lock).holder (eqb (E.lock k.lock).turn seen)
   where
     go :
-        (h : Holder) (b : Bool) →
-        let to = on_holder h (pick b (win_tale T i k.lock) T) (λ s. T) in
+        (h : Option ℕ) (b : Bool) →
+        let to = on_option h (pick b (win_tale T i k.lock) T) (λ s. T) in
         with_won T to.won ≡ to
-    go Free true = refl
-    go Free false = refl
-    go (By s) b = refl
+    go None true = refl
+    go None false = refl
+    go (Some s) b = refl
 only_won T E i k (LookAgain won) = refl
 only_won T E i k (ReadMark seen won) = refl
 only_won T E i k (Point.Run r at) = refl

@@ -1,4 +1,5 @@
 -- One step on its pieces: where a Look leads, that no other step leads to worn, and that a worn lock word stays as it is.
+use Rattle.std.specs.Prelude.{None, Option, Some}
 use Prim.Native.Nat.{ℕ, ◌<◌}
 use mathlib.Core.Bool.{Bool, true, false}
 use mathlib.Core.Path.{◌≡◌, refl, ap, ◌∙◌}
@@ -8,11 +9,9 @@ use lib.Dec.{eqb}
 use Rattle.parts.specs.Instr.{asks_of, follows_of}
 use Rattle.parts.specs.Numbers.{last_turn}
 use Rattle.parts.specs.Parts.{holds_of, worn_of, grab_of, release_of}
-use Rattle.parts.specs.Pick.{pick, on_holder}
+use Rattle.parts.specs.Pick.{pick, on_option}
 use Rattle.parts.specs.declared.Answer.{Answer}
 use Rattle.parts.specs.declared.Answer.TheVariants.{RanYes, RanNo, NotTaken, Worn}
-use Rattle.parts.specs.declared.Holder.{Holder}
-use Rattle.parts.specs.declared.Holder.TheVariants.{Free, By}
 use Rattle.parts.specs.declared.LockWord.{LockWord}
 use Rattle.alone.proofs.Bounds.{asks_all, follows_all}
 use Rattle.steps.specs.Try.{to_of, at_of, start_of, look_step, grab_step, look_again_step, read_mark_step, read_step, follow_step, commit_step, swap_step, mark_step, answer_of, release_step, effect_of}
@@ -57,13 +56,13 @@ unfolding effect_of look_step worn_of
 look_to_lem v = go v.lock.holder (eqb v.lock.turn last_turn) refl refl
   where
     go :
-        (h : Holder) (b : Bool) → v.lock.holder ≡ h → eqb v.lock.turn last_turn ≡ b →
+        (h : Option ℕ) (b : Bool) → v.lock.holder ≡ h → eqb v.lock.turn last_turn ≡ b →
         LooksTo v.lock
-        (on_holder h (pick b (to_of v (Finished Worn)) (at_of v (Grab v.lock.turn)))
+        (on_option h (pick b (to_of v (Finished Worn)) (at_of v (Grab v.lock.turn)))
         (λ s. at_of v (Point.Run (start_of s v.lock.turn) Read))).worker.state
-    go Free true e f = worn refl (simp (e, f))
-    go Free false e f = onward tt (simp (e, f))
-    go (By s) b e f = onward tt (simp e)
+    go None true e f = worn refl (simp (e, f))
+    go None false e f = onward tt (simp (e, f))
+    go (Some s) b e f = onward tt (simp e)
 
 -- a step past Look
 module _ (v : View) where
@@ -89,15 +88,15 @@ module _ (v : View) where
 
 -- a worn lock word
 abbrev pub worn0 : LockWord
-worn0 = record { turn = last_turn; holder = Free }
+worn0 = record { turn = last_turn; holder = None }
 
 pub worn_is : (l : LockWord) → worn_of l ≡ true → l ≡ worn0
 unfolding worn_of
 worn_is l h = go l.holder refl h
   where
-    go : (q : Holder) → l.holder ≡ q → on_holder q (eqb l.turn last_turn) (λ s. false) ≡ true → l ≡ worn0
-    go Free e z = λ i. record { turn = eqb-true l.turn last_turn z i; holder = e i }
-    go (By s) e z = let z : ◌≡◌ {A = ℕ} 0 1 = cc in absurd (omega arith)
+    go : (q : Option ℕ) → l.holder ≡ q → on_option q (eqb l.turn last_turn) (λ s. false) ≡ true → l ≡ worn0
+    go None e z = λ i. record { turn = eqb-true l.turn last_turn z i; holder = e i }
+    go (Some s) e z = let z : ◌≡◌ {A = ℕ} 0 1 = cc in absurd (omega arith)
 
 pub worn0_worn : worn_of worn0 ≡ true
 unfolding worn_of

@@ -1,4 +1,5 @@
 -- A worn lock stays worn, and no begin on it is accepted: of each call, and so of every history.
+use Rattle.std.specs.Prelude.{Err, Ok}
 use Prim.Native.Nat.{ℕ}
 use mathlib.Core.Bool.{true, false}
 use mathlib.Core.List.{List}
@@ -7,8 +8,7 @@ use mathlib.Core.Path.{◌≡◌, refl, sym, ap, ◌∙◌}
 use native.Mathlib.Omega.{arith}
 use Rattle.parts.specs.Parts.{worn_of}
 use Rattle.parts.specs.declared.LockWord.{LockWord}
-use Rattle.parts.specs.declared.Told.{Told}
-use Rattle.parts.specs.declared.Told.TheVariants.{Accepted, Refused}
+use Rattle.parts.specs.Told.{Told}
 use Rattle.steps.specs.declared.Point.{Point}
 use Rattle.steps.specs.declared.State.TheVariants.{UnderWay}
 use Rattle.engine.specs.Calls.{begun_of, begin_told, begin_of}
@@ -58,16 +58,16 @@ worn_follow K x cs s b l z =
     ap worn_of (follow-keeps K _ (stays K l) x cs s b (worn_is (lock_at x.state l) z)) ∙ worn0_worn
 
 -- "9": begin finds it worn
-pub no_begin : (e : Engine) (w l : ℕ) (rec : List ℕ) → worn_of (lock_at e l) ≡ true → (begin_of e w l rec).told ≢ Accepted
+pub no_begin : (e : Engine) (w l : ℕ) (rec : List ℕ) → worn_of (lock_at e l) ≡ true → (begin_of e w l rec).told ≢ Ok tt
 no_begin e w l rec z h = go (begin_told e w l rec) refl
   where
     go : (t : Told) → begin_told e w l rec ≡ t → ⊥
-    go Accepted q =
+    go (Ok _) q =
         let b = begins e w l rec q in
         let both : true ≡ false = sym z ∙ b.worn in
         let z : ◌≡◌ {A = ℕ} 0 1 = cc in
         omega arith
-    go (Refused r) q =
-        let both : Refused r ≡ Accepted = sym (ap (λ (o : Outcome). o.told) (begin_told_lem e w l rec (Refused r) q)) ∙ h in
+    go (Err r) q =
+        let both : Err r ≡ Ok tt = sym (ap (λ (o : Outcome). o.told) (begin_told_lem e w l rec (Err r) q)) ∙ h in
         let z : ◌≡◌ {A = ℕ} 0 1 = cc in
         omega arith

@@ -1,4 +1,5 @@
 -- Request 03 of every history.
+use Rattle.std.specs.Prelude.{Ok}
 use Prim.Native.Nat.{ℕ}
 use mathlib.Core.Bool.{Bool, true, false}
 use mathlib.Core.Logic.{◌↔◌}
@@ -11,7 +12,6 @@ use Rattle.steps.specs.declared.State.{State}
 use Rattle.steps.specs.declared.State.TheVariants.{Finished}
 use Rattle.engine.specs.Calls.{collect_of}
 use Rattle.engine.specs.State.{lock_at}
-use Rattle.engine.specs.declared.CollectTold.{CollectTold}
 use Rattle.past.specs.Past.{Past}
 use Rattle.histories.specs.History.{follow, sofar}
 use Rattle.histories.specs.Worn.{Wears}
@@ -19,6 +19,7 @@ use Rattle.histories.proofs.Demand.Demand.{tells, demand_3}
 use Rattle.histories.proofs.Simulation.Standing.{standing_past}
 use Rattle.histories.proofs.Worn.Looked.{Looked, tried_past}
 use Rattle.histories.proofs.Worn.Stays.{worn_follow, no_begin}
+use Rattle.engine.specs.Calls.{answered}
 
 not_both : false ≡ true → ⊥
 not_both h = let z : ◌≡◌ {A = ℕ} 0 1 = cc in omega arith
@@ -31,7 +32,7 @@ by_answer NotTaken n f l h = (λ e. let z : ◌≡◌ {A = ℕ} 0 1 = cc in absu
 by_answer Worn n f l h = (λ e. h.0, λ k. refl)
 
 looked :
-    (p : Past) (w : ℕ) (a : Answer) (n m : ℕ) → (collect_of (sofar p).state w).told ≡ CollectTold.Answered a n m →
+    (p : Past) (w : ℕ) (a : Answer) (n m : ℕ) → (collect_of (sofar p).state w).told ≡ Ok (answered a n m) →
     Looked (Finished a) n (worn_of ((sofar p).found w)) (worn_of (lock_at (sofar p).state ((sofar p).tries w).lock))
 looked p w a n m h =
     let x = sofar p in

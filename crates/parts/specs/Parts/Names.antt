@@ -1,8 +1,6 @@
 -- What Parts.antt goes by and does not list itself: the library's symbols, the generated types and their cases.
-pub use Rattle.std.specs.Prelude.{ℕ, ◌+◌, ◌%◌, ◌^◌, Bool, true, false, eqb}
+pub use Rattle.std.specs.Prelude.{ℕ, ◌+◌, ◌%◌, ◌^◌, Bool, true, false, eqb, None, Some}
 pub use Rattle.parts.specs.declared.Entry.{Entry}
-pub use Rattle.parts.specs.declared.Fill.TheVariants.{Empty, Filled}
-pub use Rattle.parts.specs.declared.Holder.TheVariants.{Free, By}
 pub use Rattle.parts.specs.declared.Instr.{Instr}
 pub use Rattle.parts.specs.declared.LockWord.{LockWord}
 pub use Rattle.parts.specs.declared.Reading.{Reading}

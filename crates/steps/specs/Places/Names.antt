@@ -1,7 +1,5 @@
 -- What Places.antt goes by and does not list itself: the library's symbols, the generated types and their cases.
-pub use Rattle.std.specs.Prelude.{ℕ, Bool, false, eqb}
-pub use Rattle.parts.specs.declared.Holder.{Holder}
-pub use Rattle.parts.specs.declared.Holder.TheVariants.{Free, By}
+pub use Rattle.std.specs.Prelude.{ℕ, Bool, false, eqb, None, Option, Some}
 pub use Rattle.steps.specs.declared.Point.{Point}
 pub use Rattle.steps.specs.declared.Point.TheVariants.{Look, Grab, LookAgain, ReadMark}
 pub use Rattle.steps.specs.declared.Run.{Run}

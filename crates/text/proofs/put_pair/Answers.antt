@@ -1,0 +1,9 @@
+-- What is put is the text of each call, one after the other.
+use Rattle.std.proofs.Common.{rules}
+use Rattle.text.specs.Text.{pair_text}
+use Rattle.text.proofs.Written.{writing}
+use Rattle.text.proofs.put_pair.Goals as goal
+
+pub returns : goal.returns
+unfolding pair_text
+returns c = search (writing, rules)
