@@ -47,7 +47,7 @@ pub fn locks_from(turns: &[u8]) -> [LockWord; LOCKS]
     out
 }
 
-// A sheet's log is empty.
+// A sheet's log is empty. This and the next are two: of `fill` at a type parameter it is known that it clones, and not that a clone is the value.
 pub fn log_emptied(log: &mut [Entry; ENTRIES], base: usize)
     requires { base + instructions ≤ entries }
     ensures { log.new ≡ lay base (replicate instructions entry0) log.old }

@@ -22,7 +22,7 @@ pub enum Book {
 }
 
 impl Book {
-    // The number that C knows it by.
+    // The number that C knows it by. A method, as `Refusal::number` is.
     pub fn number(self) -> u32
         ensures { result ≡ book_number self }
     {

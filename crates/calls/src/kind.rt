@@ -13,6 +13,7 @@ pub enum CallKind {
 }
 
 impl CallKind {
+    // A method, as `Refusal::number` is.
     pub fn number(self) -> u8
         ensures { result ≡ kind_number self }
     {

@@ -4,10 +4,10 @@ ghost use Rattle.std.specs.Prelude.{◌≡◌, ◌-◌, length};
 ghost use Rattle.std.specs.Iterator.{at_most};
 ghost use Rattle.calls.specs.Reader.{item_at, past_item, Hands};
 
-use crate::record::{record_told, size_of};
+use crate::record::CallRecord;
 use parts::Refusal;
 
-// What stands at a place of the recorded bytes: a call record, from its first byte up to the byte past it, or why it is refused; nothing
+// What stands at a place of the recorded bytes (two places and no `Range`, which can't be copied freely): a call record, from its first byte up to the byte past it, or why it is refused; nothing
 // at their end.
 #[tactic(auto, using(crate::proofs::Items::items))]
 pub fn item_at(bytes: &[u8], place: usize) -> Option<Result<(usize, usize), Refusal>>
@@ -16,11 +16,9 @@ pub fn item_at(bytes: &[u8], place: usize) -> Option<Result<(usize, usize), Refu
     if bytes.len() <= place {
         return None;
     }
-    let rest = &bytes[place..];
-    let told = record_told(rest);
-    match told {
+    match CallRecord::checked(&bytes[place..]) {
         Err(r) => Some(Err(r)),
-        Ok(()) => Some(Ok((place, place + size_of(rest)))),
+        Ok(call) => Some(Ok((place, place + call.size()))),
     }
 }
 

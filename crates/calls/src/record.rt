@@ -1,5 +1,6 @@
 // The record at the front of a slice: is it a call record?
-ghost use Rattle.std.specs.Prelude.{◌≡◌, ◌≤◌, length};
+ghost use Rattle.std.specs.Prelude.{◌≡◌, ◌≤◌, length, IfOk, Ok, Err};
+ghost use Rattle.parts.specs.declared.Refusal.{Refusal};
 ghost use Rattle.records.specs.Bytes.{length_field};
 ghost use Rattle.calls.specs.Kind.{kind_number};
 ghost use Rattle.calls.specs.Record.{call_field, no_call_length, lock_unused, cut_short, bad_head, no_call, record_told};
@@ -7,7 +8,7 @@ ghost use Rattle.calls.specs.Record.{call_field, no_call_length, lock_unused, cu
 use crate::kind::CallKind;
 use parts::{INSTRUCTIONS, Refusal};
 
-// The length of a call's record.
+// The length of a call's record. Here and below the call is a byte: whether it is one of the four is what is asked.
 fn no_call_length(call: u8, n: usize) -> bool
     requires { 8 ≤ n }
     ensures { result ≡ no_call_length call n }
@@ -71,20 +72,36 @@ pub fn record_told(s: &[u8]) -> Result<(), Refusal>
     Ok(())
 }
 
-// How long an accepted record is.
-#[tactic(auto, using(crate::proofs::Laws::holds_least, crate::proofs::Laws::holds_whole))]
-pub fn size_of(s: &[u8]) -> usize
-    requires { record_told s.now ≡ Ok tt }
-    ensures { (result ≡ length_field s.now) × (8 ≤ result) × (result ≤ length s.now) }
-{
-    records::length_of(s)
+// A record that is accepted, at the front of its bytes.
+#[derive(Clone, Copy)]
+pub struct CallRecord<'a> {
+    pub bytes: &'a [u8],
+    ghost accepted: { record_told bytes.now ≡ Ok tt },
 }
 
-// Which call an accepted record makes.
-#[tactic(auto, using(crate::proofs::Laws::holds_eight, crate::proofs::Laws::holds_call))]
-pub fn call_of(s: &[u8]) -> CallKind
-    requires { record_told s.now ≡ Ok tt }
-    ensures { kind_number result ≡ call_field s.now }
-{
-    CallKind::try_from(u32::from(s[4])).unwrap()
+impl<'a> CallRecord<'a> {
+    // 5, 6 or 17 where there is none.
+    pub fn checked(s: &'a [u8]) -> Result<CallRecord<'a>, Refusal>
+        ensures accepted { IfOk result (λ call. call.bytes.now ≡ s.now) }
+        ensures refused { (r : Refusal) → result ≡ Err r → record_told s.now ≡ Err r }
+    {
+        record_told(s)?;
+        Ok(CallRecord { bytes: s })
+    }
+
+    // How long it is.
+    #[tactic(auto, using(crate::proofs::Laws::holds_least, crate::proofs::Laws::holds_whole))]
+    pub fn size(self) -> usize
+        ensures { (result ≡ length_field self.entry.bytes.now) × (8 ≤ result) × (result ≤ length self.entry.bytes.now) }
+    {
+        records::length_of(self.bytes)
+    }
+
+    // Which call it makes.
+    #[tactic(auto, using(crate::proofs::Laws::holds_eight, crate::proofs::Laws::holds_call))]
+    pub fn call(self) -> CallKind
+        ensures { kind_number result ≡ call_field self.entry.bytes.now }
+    {
+        CallKind::try_from(u32::from(self.bytes[4])).unwrap()
+    }
 }

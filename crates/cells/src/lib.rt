@@ -1,7 +1,8 @@
 // The state as numbers that a caller lends: each piece is read and written in place. Of a whole piece a contract gives the numbers
 // exactly, and the state that they say (`unpack`); of one number of a worker, the numbers alone.
 // That the numbers are enough stands at each function here and above: callers may lend more than a state takes, which `[u32; NUMBERS]` would
-// not let them, and what is written through a struct around the slice is not known of the slice once the struct is gone.
+// not let them, and what is written through a struct around the slice is not known of the slice once the struct is gone. A step reads between
+// its writes, so its readers take the slice too, and with it the worker that it steps.
 #![tactic(auto)]
 
 ghost use Rattle.std.specs.Prelude.{◌≡◌, ◌≤◌, ◌<◌, length};
@@ -16,7 +17,7 @@ pub mod codes;
 pub mod piece;
 pub mod worker;
 
-use crate::worker::{FILLED, IDLE, LOCK, OWN, STEPS, TAG};
+use crate::worker::{FILLED, IDLE, LOCK, OWN, Row, STEPS, TAG};
 use parts::{ENTRIES, LOCKS, LockWord, Reading, SHEETS, WORDS, WORKERS};
 use steps::{Run, Worker};
 
@@ -152,7 +153,8 @@ pub fn get_run(s: &[u32], w: usize) -> Run
     requires { (numbers ≤ length s.now) × (w < workers) }
     ensures { result ≡ run_now s.now w }
 {
-    worker::run_at(s, WORKER_BASE + w * WORKER_WIDTH)
+    let at = WORKER_BASE + w * WORKER_WIDTH;
+    Row { s, at }.run()
 }
 
 #[tactic(auto, unfolding(crate::specs::Layout::read_now))]
@@ -160,7 +162,8 @@ pub fn get_reading(s: &[u32], w: usize) -> Reading
     requires { (numbers ≤ length s.now) × (w < workers) }
     ensures { result ≡ read_now s.now w }
 {
-    worker::read_at(s, WORKER_BASE + w * WORKER_WIDTH)
+    let at = WORKER_BASE + w * WORKER_WIDTH;
+    Row { s, at }.reading()
 }
 
 #[tactic(auto, unfolding(crate::specs::Layout::seen_now))]
@@ -168,5 +171,6 @@ pub fn get_seen(s: &[u32], w: usize) -> LockWord
     requires { (numbers ≤ length s.now) × (w < workers) }
     ensures { result ≡ seen_now s.now w }
 {
-    worker::seen_at(s, WORKER_BASE + w * WORKER_WIDTH)
+    let at = WORKER_BASE + w * WORKER_WIDTH;
+    Row { s, at }.seen()
 }

@@ -49,7 +49,8 @@ impl Piece for Worker {
 
     #[tactic(auto, unfolding(crate::specs::Layout::unpack), using(crate::proofs::Pieces::pieces_get))]
     fn get(s: &[u32], i: usize) -> Worker {
-        worker::worker_at(s, WORKER_BASE + i * WORKER_WIDTH)
+        let at = WORKER_BASE + i * WORKER_WIDTH;
+        worker::Row { s, at }.worker()
     }
 
     fn put(self, s: &mut [u32], i: usize) {

@@ -1,5 +1,5 @@
 // A worker's 16 numbers, named as in specs/Codes.antt.
-ghost use Rattle.std.specs.Prelude.{◌≡◌, ◌+◌, ◌≤◌, ◌<◌, length};
+ghost use Rattle.std.specs.Prelude.{◌≡◌, ◌+◌, ◌≤◌, ◌<◌, length, get_or};
 ghost use Rattle.cells.specs.Codes.{at_register, registers_in, run_in, reading_in, seen_in, state_in, worker_in, run_numbers, seen_numbers, stage_numbers, point_numbers, worker_numbers, TryFits, RunFits, PointFits};
 ghost use Rattle.cells.specs.Layout.{worker_used};
 ghost use Rattle.cells.specs.Pieces.{reads};
@@ -36,7 +36,7 @@ pub const NEW: usize = 14;
 
 pub const FILLED: usize = 15;
 
-// The tags.
+// The tags: numbers, since a caller lends them and may lend any; a state that they say is an enum (`Row::state`).
 pub const IDLE: u32 = 0;
 
 pub const LOOK: u32 = 1;
@@ -72,89 +72,93 @@ pub fn at_register(i: u8) -> usize
     }
 }
 
-pub fn registers_at(s: &[u32], at: usize) -> Registers
-    requires { at + worker_used ≤ length s.now }
-    ensures { result ≡ registers_in (reads s.now at 0 worker_used) }
-{
-    Registers {
-        r0: s[at + 8],
-        r1: s[at + 9],
-        r2: s[at + 10],
-        r3: s[at + 11],
+// The numbers of a worker that stands at this place.
+#[derive(Clone, Copy)]
+pub struct Row<'a> {
+    pub s: &'a [u32],
+    pub at: usize,
+    ghost within: { at + worker_used ≤ length s.now },
+}
+
+impl<'a> Row<'a> {
+    // Number j of them.
+    fn number(self, j: usize) -> u32
+        requires { j < worker_used }
+        ensures { result ≡ get_or self.entry.s.now (self.entry.at + j) 0 }
+    {
+        self.s[self.at + j]
     }
-}
 
-pub fn run_at(s: &[u32], at: usize) -> Run
-    requires { at + worker_used ≤ length s.now }
-    ensures { result ≡ run_in (reads s.now at 0 worker_used) }
-{
-    let sheet = codes::byte(s[at + SHEET]);
-    let next = codes::byte(s[at + NEXT]);
-    let place = codes::byte(s[at + PLACE]);
-    let registers = registers_at(s, at);
-    Run {
-        sheet,
-        won: s[at + WON],
-        next,
-        place,
-        registers,
+    pub fn registers(self) -> Registers
+        ensures { result ≡ registers_in (reads self.entry.s.now self.entry.at 0 worker_used) }
+    {
+        Registers {
+            r0: self.number(8),
+            r1: self.number(9),
+            r2: self.number(10),
+            r3: self.number(11),
+        }
     }
-}
 
-pub fn read_at(s: &[u32], at: usize) -> Reading
-    requires { at + worker_used ≤ length s.now }
-    ensures { result ≡ reading_in (reads s.now at 0 worker_used) }
-{
-    Reading {
-        value: s[at + VALUE],
-        count: s[at + COUNT],
+    pub fn run(self) -> Run
+        ensures { result ≡ run_in (reads self.entry.s.now self.entry.at 0 worker_used) }
+    {
+        Run {
+            sheet: codes::byte(self.number(SHEET)),
+            won: self.number(WON),
+            next: codes::byte(self.number(NEXT)),
+            place: codes::byte(self.number(PLACE)),
+            registers: self.registers(),
+        }
     }
-}
 
-pub fn seen_at(s: &[u32], at: usize) -> LockWord
-    requires { at + worker_used ≤ length s.now }
-    ensures { result ≡ seen_in (reads s.now at 0 worker_used) }
-{
-    codes::lock_of(s[at + VALUE], s[at + SHEET])
-}
-
-// By the tag.
-#[tactic(auto, unfolding(crate::specs::Codes::state_in))]
-pub fn state_at(s: &[u32], at: usize) -> State
-    requires { at + worker_used ≤ length s.now }
-    ensures { result ≡ state_in (reads s.now at 0 worker_used) }
-{
-    let tag = s[at + TAG];
-    let won = s[at + WON];
-    let new = s[at + NEW];
-    match tag {
-        IDLE => State::Idle,
-        LOOK => State::UnderWay(Point::Look),
-        GRAB => State::UnderWay(Point::Grab(won)),
-        LOOK_AGAIN => State::UnderWay(Point::LookAgain(won)),
-        READ_MARK => State::UnderWay(Point::ReadMark(seen_at(s, at), won)),
-        READ => State::UnderWay(Point::Run(run_at(s, at), Stage::Read)),
-        COMMIT => State::UnderWay(Point::Run(run_at(s, at), Stage::Commit(read_at(s, at)))),
-        SWAP => State::UnderWay(Point::Run(run_at(s, at), Stage::Swap(read_at(s, at), new))),
-        MARK => State::UnderWay(Point::Run(run_at(s, at), Stage::Mark(codes::flag(new)))),
-        RELEASE => State::UnderWay(Point::Run(run_at(s, at), Stage::Release(codes::flag(new)))),
-        _ => State::Finished(codes::answer_of(new)),
+    pub fn reading(self) -> Reading
+        ensures { result ≡ reading_in (reads self.entry.s.now self.entry.at 0 worker_used) }
+    {
+        Reading {
+            value: self.number(VALUE),
+            count: self.number(COUNT),
+        }
     }
-}
 
-pub fn worker_at(s: &[u32], at: usize) -> Worker
-    requires { at + worker_used ≤ length s.now }
-    ensures { result ≡ worker_in (reads s.now at 0 worker_used) }
-{
-    let state = state_at(s, at);
-    let lock = codes::byte(s[at + LOCK]);
-    let own = codes::byte(s[at + OWN]);
-    Worker {
-        state,
-        lock,
-        own,
-        steps: s[at + STEPS],
-        filled: s[at + FILLED],
+    pub fn seen(self) -> LockWord
+        ensures { result ≡ seen_in (reads self.entry.s.now self.entry.at 0 worker_used) }
+    {
+        codes::lock_of(self.number(VALUE), self.number(SHEET))
+    }
+
+    // By the tag.
+    #[tactic(auto, unfolding(crate::specs::Codes::state_in))]
+    pub fn state(self) -> State
+        ensures { result ≡ state_in (reads self.entry.s.now self.entry.at 0 worker_used) }
+    {
+        let won = self.number(WON);
+        let new = self.number(NEW);
+        match self.number(TAG) {
+            IDLE => State::Idle,
+            LOOK => State::UnderWay(Point::Look),
+            GRAB => State::UnderWay(Point::Grab(won)),
+            LOOK_AGAIN => State::UnderWay(Point::LookAgain(won)),
+            READ_MARK => State::UnderWay(Point::ReadMark(self.seen(), won)),
+            READ => State::UnderWay(Point::Run(self.run(), Stage::Read)),
+            COMMIT => State::UnderWay(Point::Run(self.run(), Stage::Commit(self.reading()))),
+            SWAP => State::UnderWay(Point::Run(self.run(), Stage::Swap(self.reading(), new))),
+            MARK => State::UnderWay(Point::Run(self.run(), Stage::Mark(codes::flag(new)))),
+            RELEASE => State::UnderWay(Point::Run(self.run(), Stage::Release(codes::flag(new)))),
+            _ => State::Finished(codes::answer_of(new)),
+        }
+    }
+
+    pub fn worker(self) -> Worker
+        ensures { result ≡ worker_in (reads self.entry.s.now self.entry.at 0 worker_used) }
+    {
+        Worker {
+            state: self.state(),
+            lock: codes::byte(self.number(LOCK)),
+            own: codes::byte(self.number(OWN)),
+            steps: self.number(STEPS),
+            filled: self.number(FILLED),
+        }
     }
 }
 

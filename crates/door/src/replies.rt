@@ -1,4 +1,5 @@
-// What a call told, as the numbers of a reply: each conversion is the definition of specs/Door.antt that it names.
+// What a call told, as the numbers of a reply: each conversion is the definition of specs/Door.antt that it names. A reply's zeros are written
+// out, as C reads them; `Default` would name the same fields once more.
 ghost use Rattle.std.specs.Prelude.{◌≡◌, ◌%◌, ◌^◌};
 ghost use Rattle.parts.specs.Pick.{pick};
 ghost use Rattle.parts.specs.Told.{answer_number};

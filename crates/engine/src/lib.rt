@@ -28,6 +28,8 @@ pub struct Sheet {
     pub done: bool,
 }
 
+// Memory is fixed: each array has the most that there can be, `locks` and `words` say how many there are, and the programs and logs of all
+// sheets stand in one array each, as the sheets' numbers and log places find them.
 #[derive(Clone, Copy)]
 pub struct Engine {
     pub locks: u8,
@@ -51,7 +53,7 @@ pub struct Places {
     pub sheet: usize,
 }
 
-// What setup gives: a state, which is the blank one where the record was refused.
+// What setup gives: a state, which is the blank one where the record was refused; so it is no `Result`.
 #[derive(Clone, Copy)]
 pub struct Outcome {
     pub engine: Engine,
@@ -101,7 +103,7 @@ impl Engine {
         }
     }
 
-    // No locks, no words, idle workers, free sheets.
+    // No locks, no words, idle workers, free sheets. Written out: with calls of `Worker::idle` or `default` in the arrays the proof did not close.
     #[tactic(auto, unfolding(crate::specs::State::blank_of))]
     pub fn blank() -> Engine
         ensures { result ≡ blank_of }

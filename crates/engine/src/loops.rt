@@ -1,4 +1,5 @@
-// What show and park write into a lent buffer, read out of a state element by element; and the lowest held lock.
+// What show and park write into a lent buffer, read out of a state element by element; and the lowest held lock. The loops go by number: a
+// state gives a piece by its number, and each turn writes at a place that it computes.
 ghost use Rattle.std.specs.Prelude.{◌≡◌, ◌+◌, ◌*◌, ◌≤◌, length, take, drop};
 ghost use Rattle.parts.specs.Lay.{lay};
 ghost use Rattle.parts.specs.Numbers.{entries, most_words, most_locks};
@@ -32,7 +33,8 @@ pub fn put_guards<S: Reads>(s: &S, n: usize, buf: &mut [u8], at: usize)
     }
 }
 
-// The values of the first n words.
+// The values of the first n words. These and the turns are two loops: over a closure, it would have to be promised that it may be called at
+// each index below n, and what it gives there, which is longer than a loop.
 pub fn put_values<S: Reads>(s: &S, n: usize, buf: &mut [u8], at: usize)
     requires { Walked (S.says s.now) × (n ≤ most_words) × (at + 4 * n ≤ length buf.old) }
     ensures { buf.new ≡ lay at (u32s_bytes (values_of (take n (S.says s.now).word))) buf.old }

@@ -8,7 +8,7 @@ use crate::{Answered, Engine, reads};
 use parts::{LOCKS, LockWord, Refusal, WORDS, WORKERS, Word};
 use steps::{State, Worker};
 
-// How many locks there are, and how many words.
+// How many locks there are, and how many words: two lines, which name what they count.
 pub fn lock_count(locks: u8) -> usize
     ensures { result ≡ locks % (most_locks + 1) }
 {

@@ -1,5 +1,5 @@
-// A state that is only read, wherever it stands: an `Engine`, or numbers that a caller lends (crate cells). What reads a state, and nothing
-// more, is written once over this trait.
+// A state that is only read, wherever it stands: an `Engine`, or numbers that a caller lends (`Lent` of crate lent_sheets). What reads a state
+// and nothing more is written once, over this trait.
 ghost use Rattle.std.specs.Prelude.{◌≡◌, ◌<◌, get_or};
 ghost use Rattle.parts.specs.Numbers.{workers, most_locks, most_words, sheets, entries};
 ghost use Rattle.parts.specs.Parts.{instr0};
@@ -14,6 +14,7 @@ use crate::write::instruction_count;
 use crate::{Engine, read};
 use parts::{Instr, LockWord, Refusal, Word};
 
+// The length of an array is known of a value, and is no law that every `says` meets: so `walked` hands it on.
 pub trait Reads {
     // The state that it says.
     ghost says: { Self → Engine };
@@ -92,7 +93,7 @@ impl Reads for Engine {
     }
 }
 
-// A word's value, count and guard. Refused: 16.
+// A word's value, count and guard. Refused: 16. This and the next differ in the count, the piece and the refusal: one over all three is longer.
 #[tactic(auto, unfolding(crate::specs::Calls::read_word_of))]
 pub fn read_word<S: Reads>(s: &S, word: u32) -> Result<Word, Refusal>
     ensures { result ≡ read_word_of (S.says s.now) word }

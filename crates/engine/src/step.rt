@@ -41,7 +41,7 @@ pub fn placed(w: usize, k: Worker, spot: Spot, i: Instr) -> Places
 }
 
 impl Engine {
-    // Of worker w, which is at point p.
+    // Of worker w, which is at point p. `step` has tested that there is such a worker; a type for its number would be made there and nowhere else.
     #[tactic(auto, unfolding(crate::specs::Step::places_of))]
     fn places(&self, w: usize, p: Point) -> Places
         requires { w < workers }

@@ -6,6 +6,7 @@ ghost use Rattle.engine.specs.State.{blank_of};
 
 use crate::make::{Line, make, refused_line};
 use calls::reader::reader_at;
+use calls::record::CallRecord;
 use engine::{Engine, Outcome};
 use parts::Refusal;
 
@@ -72,7 +73,11 @@ fn walk(file: &[u8], from: usize, engine: &mut Engine, out: &mut [u8]) -> usize
         match item {
             Err(r) => return put_line(out, at, index, refused_line(r)),
             Ok((here, _)) => {
-                let line = make(engine, &file[here..]);
+                // The reader hands out accepted records alone: none is checked again.
+                let call = CallRecord {
+                    bytes: &file[here..],
+                };
+                let line = make(engine, call);
                 at = put_line(out, at, index, line);
             }
         }

@@ -1,5 +1,6 @@
 // The loops of setup and begin: pieces written one after the other from a place on.
 // A loop for each kind: one over any `Piece` would need a second trait, of how its array is laid in the state, longer than the loops.
+// They go by number: each turn writes at a place that it computes.
 ghost use Rattle.std.specs.Prelude.{◌≡◌, map, ◌+◌, ◌*◌, ◌≤◌, length, replicate};
 ghost use Rattle.arrays.specs.Fresh.{words_from, free_at};
 ghost use Rattle.parts.specs.Numbers.{instructions, entries, most_words, most_locks};

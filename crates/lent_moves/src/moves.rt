@@ -1,5 +1,5 @@
 // A worker's moves, straight on its numbers: only those that change are written. Each is the definition of specs/Moves.antt that it
-// names.
+// names. One for each move of a try, by its name; what they share is `step_to`, `pass` and `log`.
 ghost use Rattle.std.specs.Prelude.{◌≡◌, ◌+◌, ◌%◌, ◌<◌, ◌≤◌, length};
 ghost use Rattle.parts.specs.Numbers.{workers};
 ghost use Rattle.cells.specs.Layout.{numbers};

@@ -1,5 +1,5 @@
-// Numbers that a caller lends, to be read as the state that they say. Shared: what is written through a struct around the slice is not known
-// of the slice once the struct is gone.
+// Numbers that a caller lends, to be read as the state that they say. The slice is shared: of one that is written through a struct around it,
+// what it says then is not known once the struct is gone.
 ghost use Rattle.std.specs.Prelude.{◌≤◌, length};
 ghost use Rattle.cells.specs.Layout.{numbers, unpack};
 
@@ -47,7 +47,7 @@ impl<'a> Reads for Lent<'a> {
         crate::marks_of(self.s)
     }
 
-    // Of a worker that may not begin, only the tag is read.
+    // Of the worker only the tag is read.
     #[tactic(auto, using(cells::proofs::Tags::begin_idle, cells::proofs::Tags::begin_way, cells::proofs::Tags::begin_end))]
     fn may_begin(&self, w: usize) -> Result<(), Refusal> {
         let tag = cells::get_number(self.s, w, TAG);

@@ -13,7 +13,8 @@ use cells::worker::{
 };
 use parts::{Refusal, WORKERS};
 
-// One step of worker w's try. Refused: 1, 11, 4.
+// One step of worker w's try. Refused: 1, 11, 4. Each point is written again on numbers, since it touches only the numbers that it changes: a
+// step on a whole `View` took six times the instructions. A match on the tag, which a caller's numbers hold; no closure is there.
 pub fn step(s: &mut [u32], w: u32) -> Result<(), Refusal>
     requires { numbers ≤ length s.old }
     ensures value { result ≡ (step_of (unpack s.old) w).told }

@@ -59,7 +59,7 @@ pub enum Refusal {
     Present,
 }
 
-// One instruction of a job.
+// One instruction of a job. `op` is its first byte, which decides among eight meanings; a record may hold any byte there.
 #[derive(Clone, Copy)]
 pub struct Instr {
     pub op: u8,
@@ -68,6 +68,7 @@ pub struct Instr {
     pub c: u8,
 }
 
+// Four fields and no array: the definitions name them one by one, and lent numbers have a place for each.
 #[derive(Clone, Copy)]
 pub struct Registers {
     pub r0: u32,
@@ -120,6 +121,7 @@ pub struct LockWord {
 }
 
 impl Answer {
+    // A method, as a refusal's number is.
     #[tactic(auto, unfolding(crate::specs::Told::answer_number))]
     pub fn number(self) -> u32
         ensures { result ≡ answer_number self }
@@ -134,6 +136,7 @@ impl Answer {
 }
 
 impl Refusal {
+    // A method and no `From`: a refusal has a number and a place, and `u32::from` would not say which of the two it gives.
     #[tactic(auto, unfolding(crate::specs::Told::refusal_number))]
     pub fn number(self) -> u32
         ensures { result ≡ refusal_number self }
@@ -209,7 +212,7 @@ impl Registers {
     pub fn set(self, i: Instr) -> Registers
         ensures { result ≡ set_of i self }
     {
-        self.with(i.a, u32::from(i.b) + 256 * u32::from(i.c))
+        self.with(i.a, u32::from(u16::from_le_bytes([i.b, i.c])))
     }
 
     #[tactic(auto, unfolding(crate::specs::Instr::add_of))]

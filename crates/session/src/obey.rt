@@ -10,7 +10,7 @@ use parts::Refusal;
 use script::{Call, after, record_of};
 
 // What a call told: whether it was accepted, what else, and the bytes that a writer was lent, all 512: `obey` promises those past
-// the lent ones too.
+// the lent ones too. A refused call has a tail beside its refusal, which is printed.
 #[derive(Clone, Copy)]
 pub struct Reply {
     pub told: Result<(), Refusal>,
@@ -150,7 +150,7 @@ fn on_park(engine: &Engine, n: u32) -> Reply
     written(told, n, bytes)
 }
 
-// The call of the line with these bytes.
+// The call of the line with these bytes. One match: the calls are an enum, which the compiler sees to be gone over whole.
 #[tactic(auto, unfolding(crate::specs::Reply::reply_of, crate::specs::Reply::script_word, crate::specs::Reply::script_lock, crate::specs::Reply::script_show, crate::specs::Reply::script_park, crate::specs::Reply::script_write))]
 pub fn obey(call: Call, engine: &mut Engine, text: &[u8]) -> Reply
     ensures value { result ≡ (reply_of call engine.old text.now).reply }

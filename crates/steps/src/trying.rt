@@ -191,7 +191,7 @@ impl View {
         }
     }
 
-    // One step of a worker that is at this point.
+    // One step of a worker that is at this point. A match on an enum, here and by the stage: a point is copied into a state, which no closure is.
     #[tactic(auto, unfolding(crate::specs::Try::effect_of))]
     pub fn step(self, p: Point) -> View
         ensures { result ≡ effect_of p self }

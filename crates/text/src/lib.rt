@@ -1,5 +1,5 @@
-// Numbers in decimal, bytes in hexadecimal, and what a call told, as text. Each writer puts its text into a lent buffer from a place
-// on and gives the place after it. The two are no struct: tried, each clause then names the old and the new buffer and place of
+// Numbers in decimal, bytes in hexadecimal, and what a call told, as text. Each writer, here and in session and files, puts its text into a
+// lent buffer from a place on and gives the place after it. The two are no struct: tried, each clause then names the old and the new buffer and place of
 // `self`, and has to say that the buffer keeps its length, which is known of a lent slice. Nor are these `Display`: the library says what
 // `write!` leaves of a `String` alone, which takes heap, and session's `turn` and files' `replay` fill a buffer that is lent and can't fail.
 #![tactic(auto)]
@@ -101,7 +101,7 @@ pub fn put_bytes(buf: &mut [u8], at: usize, bytes: &[u8]) -> usize
     put_hex(buf, next, bytes)
 }
 
-// A refusal's number and place.
+// A refusal's number and place, both by `as`: with `u64::from` of the number the proof did not close.
 fn put_refusal(buf: &mut [u8], at: usize, r: Refusal) -> usize
     requires { at + 42 ≤ length buf.old }
     ensures { Puts at 42 (refusal_text r) buf.old buf.new result }

@@ -20,14 +20,17 @@ pub returns-in-Err-clause-engine_value : goal.returns-in-Err-clause-engine_value
 returns-in-Err-clause-engine_value c =
     left_refused_state _ _ _ _ _ _ _ _ _ c.loop-index.invariant _ c.in-Some.ensures.steps.0.0 _ c.in-Err.is
 
-pub slice_bounds-make-count : goal.slice_bounds-make-count
-slice_bounds-make-count c = here_within _ _ _ _ _ _ _ _ _ c.loop-index.invariant _ c.in-Some.ensures.steps.0.0 _ _ c.in-Ok.is
+pub slice_bounds-call-count : goal.slice_bounds-call-count
+slice_bounds-call-count c = here_within _ _ _ _ _ _ _ _ _ c.loop-index.invariant _ c.in-Some.ensures.steps.0.0 _ _ c.in-Ok.is
 
-pub slice_bounds-make-start : goal.slice_bounds-make-start
-slice_bounds-make-start c = here_within _ _ _ _ _ _ _ _ _ c.loop-index.invariant _ c.in-Some.ensures.steps.0.0 _ _ c.in-Ok.is
+pub slice_bounds-call-start : goal.slice_bounds-call-start
+slice_bounds-call-start c = here_within _ _ _ _ _ _ _ _ _ c.loop-index.invariant _ c.in-Some.ensures.steps.0.0 _ _ c.in-Ok.is
 
-pub make-line-requires : goal.make-line-requires
-make-line-requires c = here_accepted _ _ _ _ _ _ _ _ _ c.loop-index.invariant _ c.in-Some.ensures.steps.0.0 _ _ c.in-Ok.is
+pub invariant_of-call : goal.invariant_of-call
+invariant_of-call c =
+    record {
+      accepted = here_accepted _ _ _ _ _ _ _ _ _ c.loop-index.invariant _ c.in-Some.ensures.steps.0.0 _ _ c.in-Ok.is;
+    }
 
 pub loop-index-preserved : goal.loop-index-preserved
 loop-index-preserved c =
