@@ -91,7 +91,7 @@ fn on_drop(engine: &mut Engine, w: u8) -> Line
     told_line(engine.drop(u32::from(w)))
 }
 
-// The call of an accepted record: one match over the kinds of call.
+// The call of an accepted record: a match over the kinds of call, since what is read from a record is a kind and can be no closure.
 #[tactic(auto, using(crate::proofs::Makes::makes, crate::proofs::Makes::has_bytes))]
 pub fn make(engine: &mut Engine, call: CallRecord) -> Line
     ensures value { result ≡ (made_of engine.old (call_in call.entry.bytes.now)).line }

@@ -294,6 +294,7 @@ fn one_line(verb: Verb, words: &[u8]) -> Option<Call>
     one_number(verb, number_of(words)?)
 }
 
+// By the verb: a match, since a verb is read from a line and can be no closure.
 #[tactic(auto, unfolding(crate::specs::Line::call_of))]
 fn call_of(verb: Verb, words: &[u8]) -> Option<Call>
     ensures { result ≡ call_of verb words.now }

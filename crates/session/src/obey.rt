@@ -150,7 +150,7 @@ fn on_park(engine: &Engine, n: u32) -> Reply
     written(told, n, bytes)
 }
 
-// The call of the line with these bytes. One match: the calls are an enum, which the compiler sees to be gone over whole.
+// The call of the line with these bytes. A match: a call is read from a line, so it is an enum and can be no closure.
 #[tactic(auto, unfolding(crate::specs::Reply::reply_of, crate::specs::Reply::script_word, crate::specs::Reply::script_lock, crate::specs::Reply::script_show, crate::specs::Reply::script_park, crate::specs::Reply::script_write))]
 pub fn obey(call: Call, engine: &mut Engine, text: &[u8]) -> Reply
     ensures value { result ≡ (reply_of call engine.old text.now).reply }

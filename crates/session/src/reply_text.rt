@@ -6,7 +6,7 @@ ghost use Rattle.session.specs.ReplyText.{lent_of, most_tail, tail_text, most_re
 use parts::Refusal;
 use text::{put, put_bytes, put_decimal, put_lock, put_number, put_three, put_told, put_two};
 
-// What a call tells after its refusal and place: the numbers that are printed.
+// What a call tells after its refusal and place, as it is printed: what is proved of a line speaks of these numbers.
 #[derive(Clone, Copy)]
 pub enum Tail {
     Nothing,
