@@ -8,7 +8,8 @@ ghost use Rattle.by_value.specs.Timed.{begun_from, counted_of, accepted_from};
 use engine::Engine;
 use parts::Refusal;
 
-// The job is begun under lock 0 by each of the first so many workers.
+// The job is begun under lock 0 by each of the first so many workers. Whether a begin was accepted is let go here by name: none was under way before,
+// so where one is refused no step of that worker is accepted, and `accepted` counts those alone.
 fn begun(engine: &mut Engine, job: &[u8], workers: u32)
     ensures { engine.new ≡ begun_from workers engine.old job.now 0 }
 {
@@ -38,7 +39,7 @@ fn counted(n: u32, told: Result<(), Refusal>) -> u32
     }
 }
 
-// A setup, the begins, and the steps of the order: how many of these were accepted.
+// A setup, the begins, and the steps of the order: how many of these were accepted. After a refused setup none is, since the blank state has no lock.
 #[unsafe(no_mangle)]
 pub extern "C" fn by_value_steps(setup: &[u8], job: &[u8], workers: u32, order: &[u8]) -> u32
     ensures { result ≡ accepted_from (begun_from workers (setup_of setup.now).engine job.now 0) order.now 0 }
