@@ -1,21 +1,8 @@
 -- Numbers overwritten, and what is known by a case.
-use Rattle.std.proofs.Common.{◌≡◌, ℕ, ◌+◌, ◌<◌, ◌≤◌, List, ◌++◌, length, drop, get_or, set, replicate, sym, ap, subst, ◌∙◌, add-one, drop_of_length-le, arith}
+use Rattle.std.proofs.Common.{◌≡◌, ℕ, ◌+◌, ◌≤◌, List, ◌++◌, length, drop, replicate, sym, ap, subst, ◌∙◌, arith}
 use Rattle.std.proofs.lemmas.List.{length-replicate}
-use Rattle.std.proofs.Math.Seq.{drop-cons}
 use Rattle.parts.specs.Lay.{lay}
-use Rattle.parts.proofs.Lay.{lay_is, lay_step, lay_done}
-
--- one turn and the end of a loop that writes numbers one by one
-pub write_turn :
-    (goal l xs : List ℕ) (at j : ℕ) →
-    goal ≡ lay (at + j) (drop j xs) l →
-    j < length xs →
-    goal ≡ lay (at + (j + 1)) (drop (j + 1) xs) (set l (at + j) (get_or xs j 0))
-write_turn goal l xs at j g h =
-    lay_step goal l _ _ (at + j) (at + (j + 1)) (get_or xs j 0) (omega arith) (drop-cons xs j 0 h ∙ simp (add-one j)) g
-
-pub write_end : (goal l xs : List ℕ) (at j : ℕ) → goal ≡ lay (at + j) (drop j xs) l → length xs ≤ j → l ≡ goal
-write_end goal l xs at j g h = lay_done goal l _ (at + j) (drop_of_length-le xs h) g
+use Rattle.parts.proofs.Lay.{lay_is}
 
 -- the first numbers overwritten by one that is the same for all
 pub lay_first :

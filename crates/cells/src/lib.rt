@@ -100,7 +100,6 @@ pub fn put_sizes(s: &mut [u32], l: u8, w: u8)
     codes::write(s, 0, &[u32::from(l), u32::from(w)]);
 }
 
-// Of each kind: piece i, and the state with another piece there. A piece's numbers are counted from 0 on, as in specs/Codes.antt.
 // Number j of worker w as it stands, and written.
 #[tactic(auto, unfolding(crate::specs::Layout::number_at))]
 pub fn get_number(s: &[u32], w: usize, j: usize) -> u32

@@ -3,3 +3,4 @@ pub mod Begins
 pub mod Record
 pub mod Written
 pub mod Turns
+pub mod Marks

@@ -118,6 +118,7 @@ pub fn read_lock<S: Reads>(s: &S, lock: u32) -> Result<LockWord, Refusal>
 }
 
 // Is this sheet in use?
+#[tactic(auto, using(sheets::proofs::Laws::marked_in_use))]
 pub fn in_use<S: Reads>(s: &S, sheet: usize) -> bool
     requires { sheet < sheets }
     ensures { result ≡ in_use (S.says s.now) sheet }
@@ -126,6 +127,7 @@ pub fn in_use<S: Reads>(s: &S, sheet: usize) -> bool
 }
 
 // The free sheet with the lowest number, or the last where none is free.
+#[tactic(auto, using(crate::proofs::Marks::lowest_by_marks))]
 pub fn free_sheet<S: Reads>(s: &S) -> u8
     ensures { result ≡ free_sheet (S.says s.now) }
 {

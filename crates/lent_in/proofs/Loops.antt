@@ -1,5 +1,4 @@
--- One turn and the end of a loop that writes pieces: those that are yet to be written are laid over what the numbers say now. And
--- the three things that a call on lent numbers ensures.
+-- One turn and the end of a loop that writes pieces: those that are yet to be written are laid over what the numbers say now.
 use Rattle.std.proofs.Common.{◌≡◌, ℕ, ◌+◌, ◌*◌, ◌/◌, ◌<◌, ◌≤◌, List, [], ◌∷◌, length, map, drop, get_or, refl, ◌∙◌, sym, ap, add-zero, length-drop, arith}
 use Rattle.std.proofs.lemmas.List.{drop-drop, get_or-drop}
 use Rattle.arrays.specs.Fresh.{free_at}

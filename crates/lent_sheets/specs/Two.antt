@@ -1,4 +1,4 @@
--- The two sheets of a worker under way, by its numbers. A reader need not believe it: `lent_sheets` promises `in_use`.
+-- The two sheets of a worker under way, by its numbers. A reader need not believe it: engine promises `in_use`, of numbers that are lent too.
 use Rattle.std.specs.Prelude.{ℕ, List, eqb, ltb, None, Option, Some}
 use Rattle.parts.specs.Pick.{pick}
 use Rattle.sheets.specs.Marks.{sheet_marks, holder_marks}

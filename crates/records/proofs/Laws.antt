@@ -1,13 +1,14 @@
 -- One turn and the end of each loop.
 use Rattle.std.specs.Prelude.{Err, Ok}
+use Rattle.std.proofs.Common.{add-one}
 use Prim.Native.Nat.{ℕ, zero, suc, ◌+◌, ◌-◌, ◌*◌, ◌/◌, ◌≤◌, ◌<◌}
 use mathlib.Core.Path.{◌≡◌, refl, ◌∙◌, sym, ap}
 use mathlib.Core.Bool.{Bool, true, false}
 use mathlib.Core.List.{List, [], ◌∷◌, ◌++◌, append_assoc}
 use native.Mathlib.Omega.{arith}
 use lib.Dec.{eqb, ltb}
-use lib.ListN.{length, get_or, take, drop, length-append, length-drop}
-use lib.Seq.{drop-drop, take_all}
+use lib.ListN.{length, get_or, set, take, drop, length-append, length-drop, drop_of_length-le}
+use lib.Seq.{drop-drop, take_all, drop-cons}
 use borrow.Rule.Slice.PartMut.{put_mid}
 use borrow.Author.Tests.{ltb-false, eqb-true, le-leb, lt-leb}
 use Rattle.parts.specs.Lay.{lay}
@@ -18,7 +19,7 @@ use Rattle.parts.specs.declared.Instr.{Instr}
 use Rattle.parts.specs.declared.Refusal.{Refusal}
 use Rattle.parts.specs.declared.Refusal.TheVariants.{Length, Range}
 use Rattle.parts.specs.Told.{Told}
-use Rattle.parts.proofs.Lay.{lay_is}
+use Rattle.parts.proofs.Lay.{lay_is, lay_step, lay_done}
 use Rattle.records.specs.Bytes.{u32_at, u32s_of, length_field, length_told}
 use Rattle.records.specs.Job.{instrs_of, first_instr}
 use Rattle.records.specs.Inner.{Lowest}
@@ -59,25 +60,39 @@ part_laid at n xs ys l e k h =
     let s : at + length xs ≤ length l = omega arith in
     simp (e, f, ← k, lay_is at xs l s, append_assoc, drop-drop)
 
--- the first instruction, of which u is told, and those after it; n is the length of the whole code
+-- one turn and the end of a loop that writes numbers one by one
+pub write_turn :
+    (goal l xs : List ℕ) (at j : ℕ) →
+    goal ≡ lay (at + j) (drop j xs) l →
+    j < length xs →
+    goal ≡ lay (at + (j + 1)) (drop (j + 1) xs) (set l (at + j) (get_or xs j 0))
+write_turn goal l xs at j g h =
+    lay_step goal l _ _ (at + j) (at + (j + 1)) (get_or xs j 0) (omega arith) (drop-cons xs j 0 h ∙ simp (add-one j)) g
+
+pub write_end : (goal l xs : List ℕ) (at j : ℕ) → goal ≡ lay (at + j) (drop j xs) l → length xs ≤ j → l ≡ goal
+write_end goal l xs at j g h = lay_done goal l _ (at + j) (drop_of_length-le xs h) g
+
+-- the first instruction, of which u is told, and those after it; n is the length of the whole code. The place and the number of those
+-- after it are any that equal these, so that code is held to their values and not to how it writes them
 module _ (Tells : Instr → ℕ → ℕ → Told → Type 0) (t : Told) where
   pub lowest_turn :
-      (s four rest : List ℕ) (i : Instr) (at place next n : ℕ) (u : Told) →
+      (s four rest : List ℕ) (i : Instr) (at place left next n : ℕ) (u : Told) →
       s ≡ four ++ rest →
       length four ≡ 4 →
       length s + 4 * at ≡ n →
       place ≡ at →
+      left ≡ n / 4 - 1 - at →
       next ≡ at + 1 →
       i ≡ first_instr four →
-      Tells i place (n / 4 - 1 - place) u →
+      Tells i place left u →
       (u ≡ Ok tt → Lowest Tells (instrs_of rest) next t) →
       ((r : Refusal) → u ≡ Err r → t ≡ Err r) →
       Lowest Tells (instrs_of s) at t
   unfolding Lowest
-  lowest_turn s four rest i at place next n u e f m p q o h a b =
+  lowest_turn s four rest i at place left next n u e f m p d q o h a b =
       let k = simp length-append at (ap length e) in
       let l : n / 4 - 1 - at ≡ length (instrs_of rest) = simp (instrs_length rest) (omega arith) in
-      rw (instrs_four s four rest e f) (u, rw (o, p, l) at h, λ z. rw q at (a z), b)
+      rw (instrs_four s four rest e f) (u, rw (o, p, d ∙ l) at h, λ z. rw q at (a z), b)
 
   pub lowest_end : (s : List ℕ) (place : ℕ) → length s < 4 → t ≡ Ok tt → Lowest Tells (instrs_of s) place t
   unfolding Lowest

@@ -62,12 +62,14 @@ pub fn put_u32(buf: &mut [u8], at: usize, x: u32)
     put_bytes(&x.to_le_bytes(), buf, at);
 }
 
-// Bytes from `at` on.
+// Bytes from `at` on. A loop: `copy_from_slice` of a number of bytes that is not known here asks the C library for `memmove`.
 pub fn put_bytes(bytes: &[u8], buf: &mut [u8], at: usize)
     requires { at + length bytes.now ≤ length buf.old }
     ensures { buf.new ≡ lay at bytes.now buf.old }
 {
-    buf[at..at + bytes.len()].copy_from_slice(bytes);
+    for j in 0..bytes.len() {
+        buf[at + j] = bytes[j];
+    }
 }
 
 // The four bytes before a record's body.

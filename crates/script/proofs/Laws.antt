@@ -1,5 +1,5 @@
 -- What the library's methods tell of a word or a line, as the definitions say it, and what a word that is read picks.
-use Rattle.std.proofs.Common.{◌≡◌, ℕ, zero, suc, ◌+◌, ◌*◌, ◌/◌, ◌^◌, ◌≤◌, ◌<◌, min, Bool, true, false, List, [], ◌∷◌, ◌++◌, Option, Some, None, refl, ◌∙◌, sym, ap, arith, length, get_or, take, eqb, leb, nat_eq, is_some, eq-eqb, ne_eqb}
+use Rattle.std.proofs.Common.{◌≡◌, ℕ, zero, suc, ◌+◌, ◌*◌, ◌/◌, ◌^◌, ◌≤◌, ◌<◌, min, Bool, true, false, List, [], ◌∷◌, ◌++◌, Option, Some, None, refl, ◌∙◌, sym, ap, arith, length, get_or, set, take, take-suc-set, eqb, leb, nat_eq, is_some, eq-eqb, ne_eqb}
 use borrow.Author.Tests.{leb-true, leb-false}
 use Rattle.std.proofs.Math.Seq.{take-suc, take_all}
 use Rattle.std.proofs.Common.{add-one, ◌&&◌}
@@ -168,31 +168,34 @@ hex_at (a ∷ b ∷ l) (suc j) h =
 
 -- one more byte of a record, and its end
 pub record_turn :
-    (word xs ys : List ℕ) (n j v : ℕ) →
-    ys ≡ xs ++ (v ∷ []) →
-    xs ≡ take j (hex_bytes word) →
+    (word bytes : List ℕ) (n j v : ℕ) →
+    take j bytes ≡ take j (hex_bytes word) →
     n ≡ min (length word / 2) most_bytes →
     j < n →
+    length bytes ≡ most_bytes →
     v ≡ hex_byte (get_or word (2 * j) 0) (get_or word (2 * j + 1) 0) →
-    ys ≡ take (j + 1) (hex_bytes word)
-record_turn word xs ys n j v p e g h q =
+    take (j + 1) (set bytes j v) ≡ take (j + 1) (hex_bytes word)
+record_turn word bytes n j v g e h k q =
+    let b : j < length bytes = omega arith in
     let w : j < length word / 2 = omega arith in
     let z : j < length (hex_bytes word) = omega (arith, hex_length word) in
-    p ∙ ap (λ (l : List ℕ). l ++ (v ∷ [])) e ∙
+    ap (λ (i : ℕ). take i (set bytes j v)) (add-one j) ∙ take-suc-set bytes j v b ∙
+    ap (λ (l : List ℕ). l ++ (v ∷ [])) g ∙
     ap (λ (i : ℕ). take j (hex_bytes word) ++ (i ∷ [])) (q ∙ sym (hex_at word j w)) ∙
     sym (take-suc (hex_bytes word) j 0 z) ∙
     ap (λ (i : ℕ). take i (hex_bytes word)) (sym (add-one j))
 
 pub record_end :
-    (word xs : List ℕ) (n j : ℕ) →
-    xs ≡ take j (hex_bytes word) →
+    (word bytes : List ℕ) (n j : ℕ) →
+    take j bytes ≡ take j (hex_bytes word) →
     n ≡ min (length word / 2) most_bytes →
     j ≤ n →
     n ≤ j →
-    xs ≡ record_in word
-record_end word xs n j e g h k =
+    take n bytes ≡ record_in word
+record_end word bytes n j g e h k =
+    let s : n ≡ j = omega arith in
     let q : take j (hex_bytes word) ≡ take most_bytes (hex_bytes word) = go (leb (length word / 2) most_bytes) refl in
-    e ∙ q
+    ap (λ (i : ℕ). take i bytes) s ∙ g ∙ q
   where
     go : (b : Bool) → leb (length word / 2) most_bytes ≡ b → take j (hex_bytes word) ≡ take most_bytes (hex_bytes word)
     go true q =

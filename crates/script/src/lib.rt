@@ -1,13 +1,11 @@
 // What a line of the script is: words separated by single spaces, of which the first names the call.
 #![tactic(auto)]
 
-ghost use Rattle.std.specs.Prelude.{◌≡◌, ◌≤◌, ◌/◌, min, length};
+ghost use Rattle.std.specs.Prelude.{◌≡◌, ◌≤◌, ◌/◌, min, length, take};
 ghost use Rattle.text.specs.Text.{most_bytes};
 ghost use Rattle.script.specs.Line.{first_at, past_of, before_of, after_of, with_digit, digits_from, number_of, pair_of, hex_digit, all_hex};
 ghost use Rattle.script.specs.Line.{is_record, hex_byte, record_in, one_verb, verb_of, setup_line, lock_line, begin_line, step_line, show_line};
 ghost use Rattle.script.specs.Line.{park_line, one_number, one_line, call_of, named_call, line_of};
-
-use arrayvec::ArrayVec;
 
 // The first place of x in s; past the end where it is not there.
 pub fn first_at(s: &[u8], x: u8) -> usize
@@ -160,15 +158,31 @@ fn byte_count(word: &[u8]) -> usize
     (word.len() / 2).min(512)
 }
 
-// A record's bytes, at most 512.
-pub fn record_of(word: &[u8]) -> ArrayVec<u8, 512>
-    ensures { result.items ≡ record_in word.now }
-{
-    let mut bytes = ArrayVec::new();
-    for j in 0..byte_count(word) {
-        bytes.push(byte_of(word[2 * j], word[2 * j + 1]));
+// A record's bytes, at most 512, and how many there are. No `ArrayVec`, which can't be copied.
+#[derive(Clone, Copy)]
+pub struct Record {
+    pub bytes: [u8; 512],
+    pub length: usize,
+    ghost within: { length ≤ most_bytes },
+}
+
+impl Record {
+    pub fn as_slice(&self) -> &[u8]
+        ensures { result.now ≡ take self.now.length self.now.bytes }
+    {
+        &self.bytes[..self.length]
     }
-    bytes
+}
+
+pub fn record_of(word: &[u8]) -> Record
+    ensures { take result.length result.bytes ≡ record_in word.now }
+{
+    let length = byte_count(word);
+    let mut bytes = [0; 512];
+    for j in 0..length {
+        bytes[j] = byte_of(word[2 * j], word[2 * j + 1]);
+    }
+    Record { bytes, length }
 }
 
 // The words with one number after them.

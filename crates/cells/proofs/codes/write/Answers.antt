@@ -1,6 +1,6 @@
 -- A turn writes number j.
 use Rattle.std.proofs.Common.{refl, add-zero, length-set, arith}
-use Rattle.cells.proofs.Laws.{write_turn, write_end}
+use Rattle.records.proofs.Laws.{write_turn, write_end}
 use Rattle.cells.proofs.codes.write.Goals as goal
 
 pub loop-j-init : goal.loop-j-init
